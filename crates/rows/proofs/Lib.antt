@@ -1,0 +1,5 @@
+pub mod Orders
+pub mod Packed
+pub mod BitLaws
+pub mod Collections
+pub mod FixedRows

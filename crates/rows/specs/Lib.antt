@@ -1,0 +1,5 @@
+pub mod Row
+pub mod Operators
+pub mod Bits
+pub mod Collected
+pub mod Laws
