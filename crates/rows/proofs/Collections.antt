@@ -1,19 +1,26 @@
 -- The laws of collections. Assumes nothing.
-use mathlib.Core.Path.{_≡_, refl, sym, ap, _∙_}
+use mathlib.Core.Path.{_≡_, refl, sym, ap, ap₂, _∙_}
 use mathlib.Core.Bool.{Bool, true, false}
 use mathlib.Core.Logic.{⊎-elim}
-use mathlib.Core.List.{List}
-use Prim.Native.Nat.{ℕ, _<_, _≤_}
+use mathlib.Core.List.{List, _++_}
+use Prim.Native.Nat.{ℕ, _/_, _%_, _^_, _<_, _≤_}
 use native.Mathlib.Omega.{arith}
+use lib.ListN.{length, take, drop}
+use Rattle.std.proofs.shelf.Counted.{length-map-counting}
+use Rattle.std.proofs.shelf.Lists.{getD-append-left, take-at}
 use Rattle.std.proofs.shelf.Tests.{cases-lt, false≢true}
+use Rattle.std.proofs.shelf.Ways.{tells}
+use Rattle.std.specs.declared.result.Result.{Result}
+use Rattle.std.specs.declared.result.Result.the-variants.{Ok, Err}
+use Rattle.faults.specs.declared.CollectFault.{CollectFault}
 use Rattle.std.specs.Orderings.{reversed, isLe}
 use Rattle.std.specs.declared.cmp.Ordering.{Ordering}
 use Rattle.std.specs.declared.cmp.Ordering.the-variants.{Less, Equal, Greater}
 use Rattle.rows.specs.Row.{Row, row, order}
-use Rattle.rows.specs.Bits.{digit, bit-of, bytes-of}
+use Rattle.rows.specs.Bits.{digit, bit-of, bytes-of, byte-at, bytes-for}
 use Rattle.rows.specs.Operators.{holds, swapped, Mirrors}
-use Rattle.rows.specs.Collected.{result, collected}
-use Rattle.rows.specs.Laws.{Exchange, Lte-goes-on, Collections}
+use Rattle.rows.specs.Collected.{result, collected, collection, written}
+use Rattle.rows.specs.Laws.{Exchange, Lte-goes-on, Collections, Same-bytes, Goes-on}
 use Rattle.rows.specs.declared.operator.CompareOperator.{CompareOperator}
 use Rattle.rows.specs.declared.operator.CompareOperator.the-variants.{Eq, NotEq, Gt, Gte, Lt, Lte}
 use Rattle.rows.proofs.Packed.{packed-bit, packed-spare}
@@ -72,6 +79,40 @@ lte-goes-on xs ys zs n i h k =
     packed-bit (result xs zs Lte) n i l ∙ ap digit (lte-trans (row xs i) (row ys i) (row zs i) p q))
     (λ l. absurd (omega (arith, packed-spare (result xs ys Lte) n i l)))
     (cases-lt i n)
+
+-- ---- what a granted collection leaves
+
+-- a grant answers the number of bytes
+pub grants : (xs ys : List Row) (n room k : ℕ) → Ok k ≡ collection xs ys n room → k ≡ bytes-for n
+grants xs ys n room k h = grind (arith, tells)
+
+-- the output of a collection that a check granted before
+pub leaves : (xs ys : List Row) (n room k : ℕ) (bytes out after : List ℕ) (r : Result ℕ CollectFault) → Ok k ≡ collection xs ys n room
+    → r ≡ collection xs ys n room → after ≡ written r bytes out → after ≡ bytes ++ drop (bytes-for n) out
+leaves xs ys n room k bytes out after r granted answer writes =
+    writes ∙ ap (λ q. written q bytes out) (answer ∙ sym granted) ∙ ap (λ j. bytes ++ drop j out) (grants xs ys n room k granted)
+
+collected-length : (xs ys : List Row) (op : CompareOperator) (n : ℕ) → length (collected xs ys op n) ≡ bytes-for n
+collected-length xs ys op n = length-map-counting (byte-at (result xs ys op) n) 0 (bytes-for n)
+
+pub first-bytes : (xs ys : List Row) (op : CompareOperator) (n : ℕ) (rest : List ℕ) → take (bytes-for n) (collected xs ys op n ++ rest) ≡ collected xs ys op n
+first-bytes xs ys op n rest = take-at (collected xs ys op n) rest (bytes-for n) (collected-length xs ys op n)
+
+pub first-bit : (xs ys : List Row) (op : CompareOperator) (n i : ℕ) (rest : List ℕ) → i < n → bit-of (collected xs ys op n ++ rest) i ≡ bit-of (collected xs ys op n) i
+first-bit xs ys op n i rest h = ap (λ b. b / 2 ^ (i % 8) % 2) (getD-append-left (collected xs ys op n) rest 0 (i / 8) (omega (arith, collected-length xs ys op n)))
+
+pub same-bytes : (xs ys us vs : List Row) (op : CompareOperator) (n : ℕ) (out back rest rest′ : List ℕ) → us ≡ ys → vs ≡ xs
+    → out ≡ collected xs ys op n ++ rest → back ≡ collected us vs (swapped op) n ++ rest′ → Same-bytes n out back
+same-bytes xs ys us vs op n out back rest rest′ p q h k =
+    ap (take (bytes-for n)) h ∙ first-bytes xs ys op n rest ∙ sym (exchange xs ys op n) ∙ sym (ap₂ (λ a b. collected a b (swapped op) n) p q)
+    ∙ sym (ap (take (bytes-for n)) k ∙ first-bytes us vs (swapped op) n rest′)
+
+pub goes-on : (xs ys ys′ zs xs′ zs′ : List Row) (n : ℕ) (ab bc ac r r′ r″ : List ℕ) → ys ≡ ys′ → xs′ ≡ xs → zs′ ≡ zs
+    → ab ≡ collected xs ys Lte n ++ r → bc ≡ collected ys′ zs Lte n ++ r′ → ac ≡ collected xs′ zs′ Lte n ++ r″ → Goes-on n ab bc ac
+goes-on xs ys ys′ zs xs′ zs′ n ab bc ac r r′ r″ p q s h k l i lt one two =
+    let first : bit-of (collected xs ys Lte n) i ≡ 1 = sym (ap (λ bs. bit-of bs i) h ∙ first-bit xs ys Lte n i r lt) ∙ one in
+    let second : bit-of (collected ys zs Lte n) i ≡ 1 = ap (λ a. bit-of (collected a zs Lte n) i) p ∙ sym (ap (λ bs. bit-of bs i) k ∙ first-bit ys′ zs Lte n i r′ lt) ∙ two in
+    ap (λ bs. bit-of bs i) l ∙ first-bit xs′ zs′ Lte n i r″ lt ∙ ap₂ (λ a b. bit-of (collected a b Lte n) i) q s ∙ lte-goes-on xs ys zs n i first second
 
 pub stands : Collections
 stands = record { exchange = exchange; lte-goes-on = lte-goes-on }

@@ -30,12 +30,17 @@ abbrev pub too-long : List Row → List Row → ℕ → Bool
 too-long xs ys n = ltb (length xs) n || ltb (length ys) n
 
 -- the output has less than the bytes for n results
-abbrev pub too-short : ℕ → List ℕ → Bool
-too-short n out = ltb (length out) (bytes-for n)
+abbrev pub too-short : ℕ → ℕ → Bool
+too-short n room = ltb room (bytes-for n)
 
--- the answer is the number of bytes written, or the first of two refusals
-abbrev pub collection : List Row → List Row → ℕ → List ℕ → Result ℕ CollectFault
-collection xs ys n out = cond (too-long xs ys n) (Err Length) (cond (too-short n out) (Err Output) (Ok (bytes-for n)))
+-- the answer over an output of so many bytes: the number of bytes written, or the first of two refusals
+abbrev pub collection : List Row → List Row → ℕ → ℕ → Result ℕ CollectFault
+collection xs ys n room = cond (too-long xs ys n) (Err Length) (cond (too-short n room) (Err Output) (Ok (bytes-for n)))
+
+-- the first answer that is a refusal, else the last
+abbrev pub first-refusal : Result ℕ CollectFault → Result ℕ CollectFault → Result ℕ CollectFault
+first-refusal (Ok k) r = r
+first-refusal (Err e) r = Err e
 
 -- what an output holds after an answer: the bytes and then what stood behind them, or all as it was
 abbrev pub written : {E : Type 0} → Result ℕ E → List ℕ → List ℕ → List ℕ

@@ -4,13 +4,14 @@ use mathlib.Core.Path.{_≡_}
 use mathlib.Core.Logic.{_⊎_}
 use mathlib.Core.List.{List, [], _∷_, _++_}
 use Prim.Native.Nat.{ℕ, _<_}
+use lib.ListN.{take}
 use Rattle.std.specs.declared.cmp.Ordering.{Ordering}
 use Rattle.std.specs.declared.cmp.Ordering.the-variants.{Less, Equal, Greater}
 use Rattle.std.specs.Orderings.{reversed}
 use Rattle.std.specs.Keys.{unsigned}
 use Rattle.std.specs.Lexical.{lex}
 use Rattle.rows.specs.Row.{Row, Rows, null, number, packed, items, list, text, order}
-use Rattle.rows.specs.Bits.{bit-of}
+use Rattle.rows.specs.Bits.{bit-of, bytes-for}
 use Rattle.rows.specs.Collected.{collected}
 use Rattle.rows.specs.Operators.{swapped}
 use Rattle.rows.specs.declared.operator.CompareOperator.{CompareOperator}
@@ -66,3 +67,11 @@ Lte-goes-on = (xs ys zs : List Row) (n i : ℕ) → bit-of (collected xs ys Lte 
 pub record Collections : Type 0 where
   pub exchange : Exchange
   pub lte-goes-on : Lte-goes-on
+
+-- two outputs agree in the bytes of n results
+abbrev pub Same-bytes : ℕ → List ℕ → List ℕ → Type 0
+Same-bytes n out back = take (bytes-for n) out ≡ take (bytes-for n) back
+
+-- each of the first n bits that is 1 in the first two outputs is 1 in the third
+abbrev pub Goes-on : ℕ → List ℕ → List ℕ → List ℕ → Type 0
+Goes-on n ab bc ac = (i : ℕ) → i < n → bit-of ab i ≡ 1 → bit-of bc i ≡ 1 → bit-of ac i ≡ 1

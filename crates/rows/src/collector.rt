@@ -84,6 +84,24 @@ fn write_bits<C: RowComparator, O: FixedOperator>(comparator: &C, len: usize, ou
     }
 }
 
+// Whether `len` rows of the comparator can be collected into so many bytes: how many are needed, or the refusal.
+pub fn check_collection<C: RowComparator>(
+    comparator: &C,
+    len: usize,
+    room: usize,
+) -> Result<usize, CollectFault>
+    ensures { λ r. ⌜ r ≡ collection (C·RowComparator .left (now (comparator .entry))) (C·RowComparator .right (now (comparator .entry))) len room ⌝ }
+{
+    if len > comparator.left_len() || len > comparator.right_len() {
+        return Err(CollectFault::Length);
+    }
+    let size = len.div_ceil(8);
+    if room < size {
+        return Err(CollectFault::Output);
+    }
+    Ok(size)
+}
+
 // Writes bit i as the operator of the order of left row i and right row i, for each row below `len`.
 // Spare bits are zero and later bytes stay. Answers the number of bytes written.
 pub fn collect_ordering_bits<C: RowComparator>(
@@ -92,16 +110,10 @@ pub fn collect_ordering_bits<C: RowComparator>(
     len: usize,
     out: &mut [u8],
 ) -> Result<usize, CollectFault>
-    ensures answers { λ r. ⌜ r ≡ collection (C·RowComparator .left (now (comparator .entry))) (C·RowComparator .right (now (comparator .entry))) len (now (out .entry)) ⌝ }
+    ensures answers { λ r. ⌜ r ≡ collection (C·RowComparator .left (now (comparator .entry))) (C·RowComparator .right (now (comparator .entry))) len (length (now (out .entry))) ⌝ }
     ensures writes { λ r. ⌜ now (out .exit) ≡ written r (collected (C·RowComparator .left (now (comparator .entry))) (C·RowComparator .right (now (comparator .entry))) op len) (now (out .entry)) ⌝ }
 {
-    if len > comparator.left_len() || len > comparator.right_len() {
-        return Err(CollectFault::Length);
-    }
-    let size = len.div_ceil(8);
-    if out.len() < size {
-        return Err(CollectFault::Output);
-    }
+    let size = check_collection(comparator, len, out.len())?;
     match op {
         CompareOperator::Eq => write_bits::<C, IsEq>(comparator, len, out),
         CompareOperator::NotEq => write_bits::<C, IsNotEq>(comparator, len, out),

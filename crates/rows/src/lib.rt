@@ -4,6 +4,7 @@ ghost use Rattle.rows.specs.Laws.{Row-order, Collections};
 pub mod collector;
 pub mod comparator;
 pub mod fixed;
+pub mod laws;
 pub mod operator;
 pub mod packing;
 
