@@ -1,0 +1,2 @@
+pub mod TotalOrders
+pub mod KeyForms

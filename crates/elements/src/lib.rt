@@ -1,0 +1,13 @@
+// The element kinds and the comparator of two number columns.
+ghost use Rattle.elements.specs.TotalOrder.{Keys-are-total-order};
+
+pub mod keys;
+pub mod ptype;
+mod reader;
+
+// The order of the keys of floats is IEEE 754 totalOrder, in each of the three formats.
+pub fn float_order_stands() -> u8
+    ensures { λ _. ⌜ Keys-are-total-order ⌝ }
+{
+    0
+}
