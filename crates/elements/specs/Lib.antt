@@ -1,4 +1,5 @@
 pub mod Kinds
 pub mod Keys
+pub mod KeyLaws
 pub mod Reading
 pub mod TotalOrder

@@ -2,6 +2,7 @@
 ghost use Rattle.elements.specs.TotalOrder.{Keys-are-total-order};
 
 pub mod keys;
+pub mod kind;
 pub mod ptype;
 mod reader;
 
