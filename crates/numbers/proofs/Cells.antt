@@ -28,7 +28,9 @@ use Rattle.rows.specs.Bits.{bytes-for}
 use Rattle.rows.specs.Row.{Row, null, number, row, order}
 use Rattle.numbers.specs.declared.validity.Validity.{Validity}
 use Rattle.numbers.specs.declared.validity.Validity.the-variants.{NonNullable, AllValid, AllInvalid, Bitmap}
-use Rattle.numbers.specs.Columns.{cell, cells, read-row, number-fault, standing, too-many, ends-past, validity-past}
+use Rattle.elements.specs.declared.ptype.PType.{PType}
+use Rattle.elements.specs.Kinds.{width-of}
+use Rattle.numbers.specs.Columns.{cell, cells, column-rows, key-at, valid-at, read-row, number-fault, standing, too-many, ends-past, validity-past}
 
 -- ---- rows by their number
 
@@ -78,3 +80,7 @@ module _ (width : ℕ) (bytes : List ℕ) (start : ℕ) (v : Validity) (n : ℕ)
       let ends : start + width * n ≤ min (length bytes) 2147483647 = ltb-false (min (length bytes) 2147483647) (start + width * n) (sound m h .1) in
       let most : width * (m + 1) ≤ width * n = mul-le width (m + 1) width n (omega arith) (omega (arith, sound m h .2)) in
       omega (arith, mul-add width m 1, mul-one width)
+
+-- what is below the length of a column's rows is below the rows that stand
+pub stands : (p : PType) (bytes : List ℕ) (start : ℕ) (v : Validity) (n m : ℕ) → m ≤ length (column-rows p bytes start v n) → m ≤ standing (width-of p) bytes start v n
+stands p bytes start v n m h = subst (λ k. m ≤ k) (cells-length (valid-at v bytes) (key-at p bytes start) (standing (width-of p) bytes start v n)) h

@@ -9,6 +9,7 @@ ghost use Rattle.std.specs.Results.{Cases};
 ghost use Rattle.elements.specs.Kinds.{width-of};
 ghost use Rattle.rows.specs.Row.{row};
 ghost use Rattle.numbers.specs.Columns.{valid-at, ends-past, validity-past, number-fault, fault-of, key-at, number-rows, column-rows, standing, read-row};
+ghost use Rattle.numbers.specs.Eights.{bit, nth};
 use crate::validity::Validity;
 use elements::kind::ElementKind;
 use faults::ColumnFault;
@@ -144,5 +145,29 @@ impl<'a, K: ElementKind> NumberColumn<'a, K> {
             return None;
         }
         Some(self.key(i))
+    }
+
+    // The keys of elements 8k to 8k + 7.
+    pub(crate) fn eight_keys(&self, k: usize) -> [i128; 8]
+        requires { ⌜ 8 * k + 8 ≤ standing (width-of (K·ElementKind .kind)) (now (now self .bytes)) (now self .start) (now self .validity) (now self .len) ⌝ }
+        ensures { λ r. ⌜ ((b : ℕ) → b < 8 → nth r b ≡ key-at (K·ElementKind .kind) (now (now (self .entry) .bytes)) (now (self .entry) .start) (8 * k + b)) ⌝ }
+    {
+        let mut keys = [0i128; 8];
+        for b in 0..8usize {
+            keys[b] = self.key(8 * k + b);
+        }
+        keys
+    }
+
+    // The valid rows among rows 8k to 8k + 7.
+    pub(crate) fn valid_byte(&self, k: usize) -> u8
+        requires { ⌜ 8 * k + 8 ≤ standing (width-of (K·ElementKind .kind)) (now (now self .bytes)) (now self .start) (now self .validity) (now self .len) ⌝ }
+        ensures { λ r. ⌜ ((b : ℕ) → b < 8 → bit r b ≡ valid-at (now (self .entry) .validity) (now (now (self .entry) .bytes)) (8 * k + b)) ⌝ }
+    {
+        match self.validity {
+            Validity::NonNullable | Validity::AllValid => 255,
+            Validity::AllInvalid => 0,
+            Validity::Bitmap(start) => self.bytes[start + k],
+        }
     }
 }

@@ -1,3 +1,5 @@
 // Number columns, and the comparator of two of them.
 pub mod column;
+mod eight;
+pub mod numbers;
 pub mod validity;

@@ -1,0 +1,18 @@
+use mathlib.Core.Path.{_≡_, sym, ap, _∙_}
+use mathlib.Core.Logic.{_≢_}
+use Prim.Native.Nat.{_<_, _+_, _*_}
+use native.Mathlib.Omega.{arith}
+use borrow.Author.Count.{below-more}
+use lib.ListN.{length, length-set}
+use lib.Seq.{getD-set-same, getD-set-other}
+use mir.Syntax.{w128}
+use Rattle.std.proofs.shelf.Signed.{toZ-ofZ}
+use Rattle.numbers.proofs.column.NumberColumn.eight_keys.Needs as need
+
+pub loop-b-again : need.loop-b-again
+loop-b-again g c =
+    (simp length-set (c .loop-b .inv .0),
+     below-more _ _
+     (λ j h. let ne : j ≢ c .loop-b .b = omega arith in rw getD-set-other (c .loop-b .inv .1 j h))
+     (let lt : c .loop-b .b < length (c .loop-b .keys) = omega arith in
+      rw getD-set-same (toZ-ofZ w128 (c .key .result) (record { sfits = c .key .ok }) ∙ c .key .ensures)))

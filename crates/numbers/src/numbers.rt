@@ -1,0 +1,60 @@
+// The comparator of two number columns.
+ghost use mathlib.Core.Path.{_≡_};
+ghost use denote.Ref.{now};
+ghost use Rattle.numbers.specs.Columns.{column-rows};
+use crate::column::NumberColumn;
+use crate::eight::eight_results;
+use elements::kind::ElementKind;
+use rows::comparator::RowComparator;
+use rows::operator::FixedOperator;
+use std::cmp::Ordering;
+
+// Each side is of any element kind. Where the kinds differ, the keys meet.
+#[derive(Drop)]
+pub struct Numbers<'a, L, R> {
+    left: NumberColumn<'a, L>,
+    right: NumberColumn<'a, R>,
+}
+
+impl<'a, L: ElementKind, R: ElementKind> Numbers<'a, L, R> {
+    pub fn new(left: NumberColumn<'a, L>, right: NumberColumn<'a, R>) -> Numbers<'a, L, R>
+        ensures { λ r. ⌜ r .left ≡ left .entry ⌝ ∗ ⌜ r .right ≡ right .entry ⌝ }
+    {
+        Numbers { left, right }
+    }
+}
+
+pub impl<'a, L: ElementKind, R: ElementKind> RowComparator for Numbers<'a, L, R> as NumbersOrder {
+    ghost left = { λ s. column-rows (L·ElementKind .kind) (now (s .left .bytes)) (s .left .start) (s .left .validity) (s .left .len) };
+
+    ghost right = { λ s. column-rows (R·ElementKind .kind) (now (s .right .bytes)) (s .right .start) (s .right .validity) (s .right .len) };
+
+    fn left_len(&self) -> usize {
+        self.left.rows()
+    }
+
+    fn right_len(&self) -> usize {
+        self.right.rows()
+    }
+
+    fn compare(&self, i: usize, j: usize) -> Ordering {
+        self.left.get(i).cmp(&self.right.get(j))
+    }
+
+    fn whole<O: FixedOperator>(&self, k: usize) -> Option<u8> {
+        let left_valid = self.left.valid_byte(k);
+        let right_valid = self.right.valid_byte(k);
+        let left = self.left.eight_keys(k);
+        let right = self.right.eight_keys(k);
+        Some(eight_results::<O>(left_valid, left, right_valid, right))
+    }
+
+    fn against<O: FixedOperator>(&self, k: usize, j: usize) -> Option<u8> {
+        let left_valid = self.left.valid_byte(k);
+        let left = self.left.eight_keys(k);
+        match self.right.get(j) {
+            Some(key) => Some(eight_results::<O>(left_valid, left, 255, [key; 8])),
+            None => Some(eight_results::<O>(left_valid, left, 0, left)),
+        }
+    }
+}
