@@ -1,19 +1,19 @@
 -- The keys as the code computes them. Assumes nothing.
-use mathlib.Core.Path.{_≡_, refl, sym, ap, subst, _∙_}
-use mathlib.Core.Bool.{Bool, true, false, cond}
-use Prim.Native.Nat.{ℕ, suc, _-_, _*_, _/_, _%_, _^_, _≤_, _<_}
-use borrow.Author.Differences.{lt-true, lt-false}
-use native.Mathlib.Nat.{two-pow-succ}
+use mathlib.Core.Path.{_≡_, refl, sym, ap, ap₂, subst, _∙_}
+use mathlib.Core.Bool.{true, false, cond}
+use mathlib.Core.Logic.{⊎-elim}
+use Prim.Native.Nat.{ℕ, suc, _+_, _-_, _*_, _/_, _%_, _^_, _≤_, _<_}
+use native.Mathlib.Nat.{two-pow-succ, mod-eq-of-lt, div-eq-of-lt}
 use native.Mathlib.Omega.{arith}
-use lib.Bits.{bitAnd}
+use lib.Bits.{bitAnd, bitXor, xor-zero-r, xor-block, xor-add-and, and-zero-l}
 use lib.Dec.{ltb}
-use lib.IntN.{ℤ, pos, negsuc, _-ℤ_, negℤ}
-use lib.Signed.{ltZ}
+use lib.IntN.{ℤ, pos, negsuc, _-ℤ_}
+use lib.Pow.{pow-mono}
 use mir.Syntax.{Width, w8, w16, w32, w64, w128}
 use mir.Val.{SFits, toZ, ofZ, bits, hbits}
-use Rattle.std.proofs.shelf.Bits.{and-mask, mod-below, pow-pos}
+use Rattle.std.proofs.shelf.Bits.{and-mask, and-comm, div-mul-add, pow-pos}
 use Rattle.std.proofs.shelf.Signed.{ints, toZ-ofZ}
-use Rattle.std.proofs.shelf.Tests.{ltb-false}
+use Rattle.std.proofs.shelf.Tests.{cases-lt, cond-true, cond-false, lt-ltb, le-ltb}
 use Rattle.std.proofs.shelf.Ways.{tells}
 use Rattle.elements.specs.declared.ptype.Class.the-variants.{Unsigned, Signed, Float}
 use Rattle.elements.specs.Keys.{key-by, sign-bit, low-bytes}
@@ -49,28 +49,67 @@ two-signs width h =
     let e : 8 * width ≡ suc (8 * width - 1) = omega arith in
     ap (λ k. 2 ^ k) e ∙ two-pow-succ (8 * width - 1) ∙ omega arith
 
-turned-cases : (H n : ℕ) (b : Bool) (z : ℤ) → ltb n H ≡ b → z ≡ cond b (pos n) (pos n -ℤ pos (2 * H)) → n < 2 * H → ltZ z (pos 0) ≡ true
-    → cond b (pos n) (negsuc (n - H)) ≡ negsuc 0 -ℤ (z -ℤ negℤ (pos H))
-turned-cases H n true z t e h k = absurd (omega (arith, ints, lt-true z (pos 0) k))
-turned-cases H n false z t e h k = let l : H ≤ n = ltb-false n H t in omega (arith, ints)
+-- all bits below the sign bit flipped
+flipped : (k m : ℕ) → m < 2 ^ k → bitXor m (2 ^ k - 1) ≡ 2 ^ k - 1 - m
+flipped k m h =
+    let low : bitAnd m (2 ^ k - 1) ≡ m = and-mask m k ∙ mod-eq-of-lt h in
+    omega (arith, xor-add-and m (2 ^ k - 1), low)
 
-kept-cases : (H n : ℕ) (b : Bool) (z : ℤ) → ltb n H ≡ b → z ≡ cond b (pos n) (pos n -ℤ pos (2 * H)) → n < 2 * H → ltZ z (pos 0) ≡ false → cond b (pos n) (negsuc (n - H)) ≡ z
-kept-cases H n true z t e h k = sym e
-kept-cases H n false z t e h k = absurd (omega (arith, ints, lt-false z (pos 0) k))
+-- the mask that flips: nothing where the sign bit is clear, and all bits below it where it is set
+pub flip-clear : (k low : ℕ) → low < 2 ^ k → bitAnd ((0 + (2 ^ 64 - low / 2 ^ k)) % 2 ^ 64) (2 ^ k - 1) ≡ 0
+flip-clear k low h =
+    let none : low / 2 ^ k ≡ 0 = div-eq-of-lt h in
+    let all : (0 + (2 ^ 64 - low / 2 ^ k)) % 2 ^ 64 ≡ 0 = omega arith in
+    ap (λ z. bitAnd z (2 ^ k - 1)) all ∙ and-zero-l (2 ^ k - 1)
 
-module _ (width n : ℕ) (some : 0 < width) (z : ℤ) (is : z ≡ key-by Signed width (low-bytes width n)) where
-  below : low-bytes width n < 2 * sign-bit width
-  below = subst (λ a. low-bytes width n < a) (two-signs width some) (mod-below n (2 ^ (8 * width)) (pow-pos (8 * width)))
+pub flip-set : (k low : ℕ) → k ≤ 64 → 2 ^ k ≤ low → low < 2 * 2 ^ k → bitAnd ((0 + (2 ^ 64 - low / 2 ^ k)) % 2 ^ 64) (2 ^ k - 1) ≡ 2 ^ k - 1
+flip-set k low most l h =
+    let split : low ≡ 1 * 2 ^ k + (low - 2 ^ k) = omega arith in
+    let one : low / 2 ^ k ≡ 1 = ap (λ x. x / 2 ^ k) split ∙ div-mul-add 1 (2 ^ k) (low - 2 ^ k) (omega arith) in
+    let all : (0 + (2 ^ 64 - low / 2 ^ k)) % 2 ^ 64 ≡ 2 ^ 64 - 1 = omega arith in
+    let fits : 2 ^ k - 1 < 2 ^ 64 = omega (arith, pow-pos k, pow-mono most) in
+    ap (λ z. bitAnd z (2 ^ k - 1)) all ∙ and-comm (2 ^ 64 - 1) (2 ^ k - 1) ∙ and-mask (2 ^ k - 1) 64 ∙ mod-eq-of-lt fits
 
-  doubled : z ≡ cond (ltb (low-bytes width n) (sign-bit width)) (pos (low-bytes width n)) (pos (low-bytes width n) -ℤ pos (2 * sign-bit width))
+-- a pattern with its sign bit set, and the bits below it flipped
+turned : (k low : ℕ) → 2 ^ k ≤ low → low < 2 * 2 ^ k → bitXor low (2 ^ k - 1) ≡ 2 ^ k + (2 ^ k - 1 - (low - 2 ^ k))
+turned k low l h =
+    let m = low - 2 ^ k in
+    let split : low ≡ 1 * 2 ^ k + m = omega arith in
+    let none : 2 ^ k - 1 ≡ 0 * 2 ^ k + (2 ^ k - 1) = omega arith in
+    let fits : m < 2 ^ k = omega arith in
+    let below : 2 ^ k - 1 < 2 ^ k = omega (arith, pow-pos k) in
+    let parts : bitXor low (2 ^ k - 1) ≡ bitXor 1 0 * 2 ^ k + bitXor m (2 ^ k - 1) = ap₂ bitXor split none ∙ xor-block k 1 0 m (2 ^ k - 1) fits below in
+    let one : bitXor 1 0 * 2 ^ k ≡ 2 ^ k = ap (λ z. z * 2 ^ k) (xor-zero-r 1) ∙ omega arith in
+    omega (arith, parts, one, flipped k m fits)
+
+-- the code's way to a float's key
+module _ (width low flip : ℕ) (some : 0 < width) (most : width ≤ 8) (fits : low < 2 ^ (8 * width)) (is : flip ≡ bitAnd ((0 + (2 ^ 64 - low / sign-bit width)) % 2 ^ 64) (sign-bit width - 1)) where
+  twice : low < 2 * sign-bit width
+  twice = subst (λ a. low < a) (two-signs width some) fits
+
+  clear : low < sign-bit width → key-by Signed width (low-bytes width (bitXor low flip)) ≡ key-by Float width low
   unfolding key-by
-  doubled = is ∙ ap (λ a. cond (ltb (low-bytes width n) (sign-bit width)) (pos (low-bytes width n)) (pos (low-bytes width n) -ℤ pos a)) (two-signs width some)
+  clear h =
+      let none : flip ≡ 0 = is ∙ flip-clear (8 * width - 1) low h in
+      let same : low-bytes width (bitXor low flip) ≡ low = ap (low-bytes width) (ap (bitXor low) none ∙ xor-zero-r low) ∙ mod-eq-of-lt fits in
+      let test : ltb low (sign-bit width) ≡ true = lt-ltb low (sign-bit width) h in
+      ap (key-by Signed width) same ∙ cond-true (ltb low (sign-bit width)) (pos low) (pos low -ℤ pos (2 ^ (8 * width))) test
+      ∙ sym (cond-true (ltb low (sign-bit width)) (pos low) (negsuc (low - sign-bit width)) test)
 
-  -- a float whose signed number is negative is turned round, and any other stays
-  pub turned : ltZ z (pos 0) ≡ true → key-by Float width (low-bytes width n) ≡ negsuc 0 -ℤ (z -ℤ negℤ (pos (sign-bit width)))
+  set : sign-bit width ≤ low → key-by Signed width (low-bytes width (bitXor low flip)) ≡ key-by Float width low
   unfolding key-by
-  turned h = turned-cases (sign-bit width) (low-bytes width n) (ltb (low-bytes width n) (sign-bit width)) z refl doubled below h
+  set h =
+      let S = sign-bit width in
+      let m = low - S in
+      let x = S + (S - 1 - m) in
+      let ones : flip ≡ S - 1 = is ∙ flip-set (8 * width - 1) low (omega arith) h twice in
+      let xored : bitXor low flip ≡ x = ap (bitXor low) ones ∙ turned (8 * width - 1) low h twice in
+      let small : x < 2 ^ (8 * width) = subst (λ a. x < a) (sym (two-signs width some)) (omega (arith, twice)) in
+      let same : low-bytes width (bitXor low flip) ≡ x = ap (low-bytes width) xored ∙ mod-eq-of-lt small in
+      let number : pos x -ℤ pos (2 ^ (8 * width)) ≡ negsuc m = ap (λ a. pos x -ℤ pos a) (two-signs width some) ∙ omega (arith, ints, twice) in
+      let high : S ≤ x = omega arith in
+      ap (key-by Signed width) same ∙ cond-false (ltb x S) (pos x) (pos x -ℤ pos (2 ^ (8 * width))) (le-ltb x S high) ∙ number
+      ∙ sym (cond-false (ltb low S) (pos low) (negsuc m) (le-ltb low S h))
 
-  pub kept : ltZ z (pos 0) ≡ false → key-by Float width (low-bytes width n) ≡ z
-  unfolding key-by
-  kept h = kept-cases (sign-bit width) (low-bytes width n) (ltb (low-bytes width n) (sign-bit width)) z refl doubled below h
+  pub float-form : key-by Signed width (low-bytes width (bitXor low flip)) ≡ key-by Float width low
+  float-form = ⊎-elim clear set (cases-lt low (sign-bit width))

@@ -1,7 +1,6 @@
 // The keys of patterns.
 ghost use mathlib.Core.Bool.{true};
 ghost use mathlib.Core.Path.{_≡_};
-ghost use lib.IntN.{ℤ, pos, negℤ};
 ghost use Prim.Native.Nat.{ℕ};
 ghost use Rattle.elements.specs.declared.ptype.Class.the-variants.{Signed, Float};
 ghost use Rattle.elements.specs.Kinds.{is-width};
@@ -36,30 +35,24 @@ fn signed_key(width: usize, pattern: u64) -> i64
     }
 }
 
-// The least signed number of `width` bytes.
-fn least_number(width: usize) -> i64
+// The sign bit of `width` bytes.
+fn sign_of(width: usize) -> u64
     requires { ⌜ is-width width ≡ true ⌝ }
-    ensures { λ r. ⌜ r ≡ negℤ (pos (sign-bit width)) ⌝ }
+    ensures { λ r. ⌜ r ≡ sign-bit width ⌝ }
 {
-    match width {
-        1 => i8::MIN as i64,
-        2 => i16::MIN as i64,
-        4 => i32::MIN as i64,
-        _ => i64::MIN,
-    }
+    1u64 << (8 * width - 1)
 }
 
-// The key of the float in the lowest `width` bytes: as a signed number, with the negative ones turned round.
+// The key of the float in the lowest `width` bytes. Without a branch: where the sign bit is set, all bits below it are flipped,
+// and the number is then read as a signed one.
 fn float_key(width: usize, pattern: u64) -> i64
     requires { ⌜ is-width width ≡ true ⌝ }
     ensures { λ r. ⌜ r ≡ key-by Float width (low-bytes width pattern) ⌝ }
 {
-    let number = signed_key(width, pattern);
-    if number < 0 {
-        -1 - (number - least_number(width))
-    } else {
-        number
-    }
+    let low = low_number(width, pattern);
+    let set = low >> (8 * width - 1);
+    let flip = 0u64.wrapping_sub(set) & (sign_of(width) - 1);
+    signed_key(width, low ^ flip)
 }
 
 impl PType {

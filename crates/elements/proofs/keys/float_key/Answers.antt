@@ -1,28 +1,24 @@
-use mathlib.Core.Path.{_≡_, sym, ap, _∙_}
-use mathlib.Core.Bool.{true, false}
-use Prim.Native.Nat.{_<_}
+use mathlib.Core.Path.{_≡_, sym, ap, subst, _∙_}
+use Prim.Native.Nat.{_+_, _-_, _*_, _/_, _%_, _^_, _<_, _≤_}
 use native.Mathlib.Omega.{arith}
-use lib.IntN.{ℤ, pos}
-use lib.Signed.{ltZ}
+use lib.Bits.{bitAnd, bitXor}
 use mir.Syntax.{w64}
-use Rattle.std.proofs.shelf.Signed.{ints, toZ-ofZ}
+use Rattle.std.proofs.shelf.Bits.{mod-below, pow-pos}
+use Rattle.std.proofs.shelf.Signed.{toZ-ofZ}
 use Rattle.std.proofs.shelf.Ways.{tells}
-use Rattle.elements.proofs.KeyForms.{turned, kept}
+use Rattle.elements.specs.declared.ptype.Class.the-variants.{Signed, Float}
+use Rattle.elements.specs.Keys.{key-by, low-bytes, sign-bit}
+use Rattle.elements.proofs.KeyForms.{float-form}
 use Rattle.elements.proofs.keys.float_key.Needs as need
 
-pub returns-then-number-lt0 : need.returns-then-number-lt0
-returns-then-number-lt0 c =
-    let z = c .signed-key-number .result in
-    let some : 0 < c .args .width = grind (arith, tells) in
-    let same = toZ-ofZ w64 z (record { sfits = c .signed-key-number .ok }) in
-    let low : ltZ z (pos 0) ≡ true = sym (ap (λ y. ltZ y (pos 0)) same) ∙ c .if-number-lt0 .taken in
-    let is = turned (c .args .width) (c .args .pattern) some z (c .signed-key-number .ensures) low in
-    omega (arith, ints, is, c .least-number .ensures)
-
-pub returns-else-number-lt0 : need.returns-else-number-lt0
-returns-else-number-lt0 c =
-    let z = c .signed-key-number .result in
-    let some : 0 < c .args .width = grind (arith, tells) in
-    let same = toZ-ofZ w64 z (record { sfits = c .signed-key-number .ok }) in
-    let low : ltZ z (pos 0) ≡ false = sym (ap (λ y. ltZ y (pos 0)) same) ∙ c .if-number-lt0 .left in
-    same ∙ sym (kept (c .args .width) (c .args .pattern) some z (c .signed-key-number .ensures) low)
+pub returns : need.returns
+returns c =
+    let w = c .args .width in
+    let low = c .low-number-low .result in
+    let some : 0 < w = grind (arith, tells) in
+    let most : w ≤ 8 = grind (arith, tells) in
+    let fits : low < 2 ^ (8 * w) = subst (λ x. x < 2 ^ (8 * w)) (sym (c .low-number-low .ensures)) (mod-below (c .args .pattern) (2 ^ (8 * w)) (pow-pos (8 * w))) in
+    let flip = bitAnd ((0 + (2 ^ 64 - low / 2 ^ (8 * w - 1))) % 2 ^ 64) (c .sign-of .result - 1) in
+    toZ-ofZ w64 (c .signed-key .result) (record { sfits = c .signed-key .ok }) ∙ c .signed-key .ensures
+    ∙ float-form w low flip some most fits (ap (λ h. bitAnd ((0 + (2 ^ 64 - low / 2 ^ (8 * w - 1))) % 2 ^ 64) (h - 1)) (c .sign-of .ensures))
+    ∙ ap (key-by Float w) (c .low-number-low .ensures)
