@@ -46,23 +46,23 @@ row-eq false false x y = refl
 
 -- ---- eight rows
 
-module _ (v w : ℕ) (v-fits : v < 2 ^ 8) (w-fits : w < 2 ^ 8) (xs ys : List ℤ) (e : ℕ) where
+module _ (v w : ℕ) (v-fits : v < 2 ^ 8) (w-fits : w < 2 ^ 8) (x y : ℕ → ℤ) (e : ℕ) where
   -- null on the left, or so by the keys
   null-or : (f : ℕ → Bool) → e ≡ bits f 0 8 → bitOr (255 - v) e ≡ bits (λ b. not (bit v b) || f b) 0 8
   null-or f h = ap₂ bitOr (ap (λ z. 255 - z) (sym (bits-of v 8 v-fits)) ∙ bits-not (bit v) 0) h ∙ bits-or (λ b. not (bit v b)) f 0 8
 
-  pub lesser : e ≡ bits (λ b. isLt (rankZ (nth xs b) (nth ys b))) 0 8 → bitAnd w (bitOr (255 - v) e) ≡ bits (λ b. isLt (order (eighth v xs b) (eighth w ys b))) 0 8
+  pub lesser : e ≡ bits (λ b. isLt (rankZ (x b) (y b))) 0 8 → bitAnd w (bitOr (255 - v) e) ≡ bits (λ b. isLt (order (eighth v x b) (eighth w y b))) 0 8
   lesser h =
-      ap₂ bitAnd (sym (bits-of w 8 w-fits)) (null-or (λ b. isLt (rankZ (nth xs b) (nth ys b))) h)
-      ∙ bits-and (bit w) (λ b. not (bit v b) || isLt (rankZ (nth xs b) (nth ys b))) 0 8
-      ∙ bits-same _ _ 0 0 8 (λ b l. row-lt (bit v (0 + b)) (bit w (0 + b)) (nth xs (0 + b)) (nth ys (0 + b)))
+      ap₂ bitAnd (sym (bits-of w 8 w-fits)) (null-or (λ b. isLt (rankZ (x b) (y b))) h)
+      ∙ bits-and (bit w) (λ b. not (bit v b) || isLt (rankZ (x b) (y b))) 0 8
+      ∙ bits-same _ _ 0 0 8 (λ b l. row-lt (bit v (0 + b)) (bit w (0 + b)) (x (0 + b)) (y (0 + b)))
 
-  pub equal : e ≡ bits (λ b. isEq (rankZ (nth xs b) (nth ys b))) 0 8 → bitAnd (255 - bitXor v w) (bitOr (255 - v) e) ≡ bits (λ b. isEq (order (eighth v xs b) (eighth w ys b))) 0 8
+  pub equal : e ≡ bits (λ b. isEq (rankZ (x b) (y b))) 0 8 → bitAnd (255 - bitXor v w) (bitOr (255 - v) e) ≡ bits (λ b. isEq (order (eighth v x b) (eighth w y b))) 0 8
   equal h =
       let both : bitXor v w ≡ bits (λ b. cond (bit v b) (not (bit w b)) (bit w b)) 0 8 = ap₂ bitXor (sym (bits-of v 8 v-fits)) (sym (bits-of w 8 w-fits)) ∙ bits-xor (bit v) (bit w) 0 8 in
-      ap₂ bitAnd (ap (λ z. 255 - z) both ∙ bits-not (λ b. cond (bit v b) (not (bit w b)) (bit w b)) 0) (null-or (λ b. isEq (rankZ (nth xs b) (nth ys b))) h)
-      ∙ bits-and (λ b. not (cond (bit v b) (not (bit w b)) (bit w b))) (λ b. not (bit v b) || isEq (rankZ (nth xs b) (nth ys b))) 0 8
-      ∙ bits-same _ _ 0 0 8 (λ b l. row-eq (bit v (0 + b)) (bit w (0 + b)) (nth xs (0 + b)) (nth ys (0 + b)))
+      ap₂ bitAnd (ap (λ z. 255 - z) both ∙ bits-not (λ b. cond (bit v b) (not (bit w b)) (bit w b)) 0) (null-or (λ b. isEq (rankZ (x b) (y b))) h)
+      ∙ bits-and (λ b. not (cond (bit v b) (not (bit w b)) (bit w b))) (λ b. not (bit v b) || isEq (rankZ (x b) (y b))) 0 8
+      ∙ bits-same _ _ 0 0 8 (λ b l. row-eq (bit v (0 + b)) (bit w (0 + b)) (x (0 + b)) (y (0 + b)))
 
 -- ---- the other operators
 
@@ -101,10 +101,10 @@ spread op e s f g F G h left right =
     (λ b l. let at : 0 + b ≡ b = omega arith in ap (λ j. holds op (order (f j) (g j))) at ∙ ap₂ (λ x y. holds op (order x y)) (left b l) (right b l))
 
 -- row b of eight is row s + b of its column
-pub in-column : (valid : ℕ → Bool) (key : ℕ → ℤ) (n s v : ℕ) (keys : List ℤ) → s + 8 ≤ n → ((b : ℕ) → b < 8 → bit v b ≡ valid (s + b)) → ((b : ℕ) → b < 8 → nth keys b ≡ key (s + b))
+pub in-column : (valid : ℕ → Bool) (key : ℕ → ℤ) (n s v : ℕ) (keys : ℕ → ℤ) → s + 8 ≤ n → ((b : ℕ) → b < 8 → bit v b ≡ valid (s + b)) → ((b : ℕ) → b < 8 → keys b ≡ key (s + b))
     → (b : ℕ) → b < 8 → eighth v keys b ≡ row (cells valid key n) (s + b)
 in-column valid key n s v keys h vs ks b l = ap₂ cell (vs b l) (ks b l) ∙ sym (row-cell valid key n (s + b) (omega arith))
 
 -- eight times one key
-pub one-key : (key : ℤ) (b : ℕ) → b < 8 → eighth 255 (replicate 8 key) b ≡ number key
+pub one-key : (key : ℤ) (b : ℕ) → b < 8 → eighth 255 (nth (replicate 8 key)) b ≡ number key
 one-key key b l = ap₂ cell (all-set b l) (getD-replicate 8 b key (pos 0) l)

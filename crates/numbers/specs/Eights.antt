@@ -17,5 +17,5 @@ abbrev pub nth : List ℤ → ℕ → ℤ
 nth keys b = getD keys b (pos 0)
 
 -- row b of eight: null where its bit is clear
-abbrev pub eighth : ℕ → List ℤ → ℕ → Row
-eighth valid keys b = cell (bit valid b) (nth keys b)
+abbrev pub eighth : ℕ → (ℕ → ℤ) → ℕ → Row
+eighth valid key b = cell (bit valid b) (key b)

@@ -3,6 +3,8 @@ ghost use mathlib.Core.Path.{_≡_};
 ghost use denote.Ref.{now};
 ghost use Rattle.numbers.specs.Columns.{column-rows};
 use crate::column::NumberColumn;
+use crate::eight::KeyPairs;
+use crate::eight::KeyPairsEight;
 use crate::eight::eight_results;
 use elements::kind::ElementKind;
 use rows::comparator::RowComparator;
@@ -46,15 +48,26 @@ pub impl<'a, L: ElementKind, R: ElementKind> RowComparator for Numbers<'a, L, R>
         let right_valid = self.right.valid_byte(k);
         let left = self.left.eight_keys(k);
         let right = self.right.eight_keys(k);
-        Some(eight_results::<O>(left_valid, left, right_valid, right))
+        Some(eight_results::<O, KeyPairs>(
+            left_valid,
+            right_valid,
+            &KeyPairs { left, right },
+        ))
     }
 
     fn against<O: FixedOperator>(&self, k: usize, j: usize) -> Option<u8> {
         let left_valid = self.left.valid_byte(k);
         let left = self.left.eight_keys(k);
         match self.right.get(j) {
-            Some(key) => Some(eight_results::<O>(left_valid, left, 255, [key; 8])),
-            None => Some(eight_results::<O>(left_valid, left, 0, left)),
+            Some(key) => {
+                let right = [key; 8];
+                Some(eight_results::<O, KeyPairs>(left_valid, 255, &KeyPairs { left, right }))
+            }
+            // A null row has no key: any will do.
+            None => {
+                let right = left;
+                Some(eight_results::<O, KeyPairs>(left_valid, 0, &KeyPairs { left, right }))
+            }
         }
     }
 }

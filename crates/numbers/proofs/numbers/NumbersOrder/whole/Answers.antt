@@ -33,7 +33,7 @@ returns g c =
     let q = g .R·ElementKind .kind in
     let s = 8 * c .args .k in
     spread (g .O·FixedOperator .means) (c .eight-results .result) s
-    (eighth (c .valid-byte-left-valid .result) (c .eight-keys-left .result)) (eighth (c .valid-byte-right-valid .result) (c .eight-keys-right .result))
+    _ _
     (row (column-rows p (l .bytes .now) (l .start) (l .validity) (l .len))) (row (column-rows q (r .bytes .now) (r .start) (r .validity) (r .len)))
     (c .eight-results .ensures)
     (in-column (valid-at (l .validity) (l .bytes .now)) (key-at p (l .bytes .now) (l .start)) (standing (width-of p) (l .bytes .now) (l .start) (l .validity) (l .len)) s _ _

@@ -1,0 +1,10 @@
+use Rattle.std.specs.Keys.{rankZ}
+use Rattle.std.specs.Orderings.{isEq}
+use Rattle.numbers.specs.Eights.{nth}
+use Rattle.numbers.proofs.EightRows.{packed-below}
+use Rattle.numbers.proofs.eight.KeyPairsEight.alike.Needs as need
+
+pub returns : need.returns
+returns c =
+    let s = c .args .self .now in
+    packed-below (λ b. isEq (rankZ (nth (s .left) b) (nth (s .right) b))) (c .pack .result) (c .pack .ensures)
