@@ -3,15 +3,14 @@ use mathlib.Core.Path.{_≡_, refl, sym, ap, ap₂, subst, _∙_}
 use mathlib.Core.Bool.{true, false, cond}
 use mathlib.Core.Logic.{⊎-elim}
 use Prim.Native.Nat.{ℕ, suc, _+_, _-_, _*_, _/_, _%_, _^_, _≤_, _<_}
-use native.Mathlib.Nat.{two-pow-succ, mod-eq-of-lt, div-eq-of-lt}
+use native.Mathlib.Nat.{add-mul, two-pow-succ, mod-eq-of-lt, div-eq-of-lt, zero-div}
 use native.Mathlib.Omega.{arith}
-use lib.Bits.{bitAnd, bitXor, xor-zero-r, xor-block, xor-add-and, and-zero-l}
+use lib.Bits.{bitAnd, bitXor, xor-zero-r, xor-block, xor-add-and}
 use lib.Dec.{ltb}
 use lib.IntN.{ℤ, pos, negsuc, _-ℤ_}
-use lib.Pow.{pow-mono}
 use mir.Syntax.{Width, w8, w16, w32, w64, w128}
 use mir.Val.{SFits, toZ, ofZ, bits, hbits}
-use Rattle.std.proofs.shelf.Bits.{and-mask, and-comm, div-mul-add, pow-pos}
+use Rattle.std.proofs.shelf.Bits.{and-mask, div-mul-add, pow-add, pow-pos}
 use Rattle.std.proofs.shelf.Signed.{ints, toZ-ofZ}
 use Rattle.std.proofs.shelf.Tests.{cases-lt, cond-true, cond-false, lt-ltb, le-ltb}
 use Rattle.std.proofs.shelf.Ways.{tells}
@@ -56,19 +55,30 @@ flipped k m h =
     omega (arith, xor-add-and m (2 ^ k - 1), low)
 
 -- the mask that flips: nothing where the sign bit is clear, and all bits below it where it is set
-pub flip-clear : (k low : ℕ) → low < 2 ^ k → bitAnd ((0 + (2 ^ 64 - low / 2 ^ k)) % 2 ^ 64) (2 ^ k - 1) ≡ 0
+flip-clear : (k low : ℕ) → low < 2 ^ k → (0 + (2 ^ 64 - low / 2 ^ k)) % 2 ^ 64 / 2 ^ (64 - k) ≡ 0
 flip-clear k low h =
     let none : low / 2 ^ k ≡ 0 = div-eq-of-lt h in
     let all : (0 + (2 ^ 64 - low / 2 ^ k)) % 2 ^ 64 ≡ 0 = omega arith in
-    ap (λ z. bitAnd z (2 ^ k - 1)) all ∙ and-zero-l (2 ^ k - 1)
+    ap (λ z. z / 2 ^ (64 - k)) all ∙ zero-div (2 ^ (64 - k))
 
-pub flip-set : (k low : ℕ) → k ≤ 64 → 2 ^ k ≤ low → low < 2 * 2 ^ k → bitAnd ((0 + (2 ^ 64 - low / 2 ^ k)) % 2 ^ 64) (2 ^ k - 1) ≡ 2 ^ k - 1
+-- k of 64 ones
+ones-high : (k : ℕ) → k ≤ 64 → (2 ^ 64 - 1) / 2 ^ (64 - k) ≡ 2 ^ k - 1
+ones-high k h =
+    let a = 2 ^ k in
+    let b = 2 ^ (64 - k) in
+    let sum : 64 ≡ k + (64 - k) = omega arith in
+    let whole : 2 ^ 64 ≡ a * b = ap (λ e. 2 ^ e) sum ∙ pow-add 2 k (64 - k) in
+    let up : a ≡ a - 1 + 1 = omega (arith, pow-pos k) in
+    let less : a * b ≡ (a - 1) * b + b = ap (λ z. z * b) up ∙ add-mul (a - 1) 1 b ∙ omega arith in
+    let split : 2 ^ 64 - 1 ≡ (a - 1) * b + (b - 1) = omega (arith, whole, less, pow-pos (64 - k)) in
+    ap (λ z. z / b) split ∙ div-mul-add (a - 1) b (b - 1) (omega (arith, pow-pos (64 - k)))
+
+flip-set : (k low : ℕ) → k ≤ 64 → 2 ^ k ≤ low → low < 2 * 2 ^ k → (0 + (2 ^ 64 - low / 2 ^ k)) % 2 ^ 64 / 2 ^ (64 - k) ≡ 2 ^ k - 1
 flip-set k low most l h =
     let split : low ≡ 1 * 2 ^ k + (low - 2 ^ k) = omega arith in
     let one : low / 2 ^ k ≡ 1 = ap (λ x. x / 2 ^ k) split ∙ div-mul-add 1 (2 ^ k) (low - 2 ^ k) (omega arith) in
     let all : (0 + (2 ^ 64 - low / 2 ^ k)) % 2 ^ 64 ≡ 2 ^ 64 - 1 = omega arith in
-    let fits : 2 ^ k - 1 < 2 ^ 64 = omega (arith, pow-pos k, pow-mono most) in
-    ap (λ z. bitAnd z (2 ^ k - 1)) all ∙ and-comm (2 ^ 64 - 1) (2 ^ k - 1) ∙ and-mask (2 ^ k - 1) 64 ∙ mod-eq-of-lt fits
+    ap (λ z. z / 2 ^ (64 - k)) all ∙ ones-high k most
 
 -- a pattern with its sign bit set, and the bits below it flipped
 turned : (k low : ℕ) → 2 ^ k ≤ low → low < 2 * 2 ^ k → bitXor low (2 ^ k - 1) ≡ 2 ^ k + (2 ^ k - 1 - (low - 2 ^ k))
@@ -83,7 +93,7 @@ turned k low l h =
     omega (arith, parts, one, flipped k m fits)
 
 -- the code's way to a float's key
-module _ (width low flip : ℕ) (some : 0 < width) (most : width ≤ 8) (fits : low < 2 ^ (8 * width)) (is : flip ≡ bitAnd ((0 + (2 ^ 64 - low / sign-bit width)) % 2 ^ 64) (sign-bit width - 1)) where
+module _ (width low flip : ℕ) (some : 0 < width) (most : width ≤ 8) (fits : low < 2 ^ (8 * width)) (is : flip ≡ (0 + (2 ^ 64 - low / sign-bit width)) % 2 ^ 64 / 2 ^ (64 - (8 * width - 1))) where
   twice : low < 2 * sign-bit width
   twice = subst (λ a. low < a) (two-signs width some) fits
 

@@ -4,7 +4,7 @@ ghost use mathlib.Core.Path.{_≡_};
 ghost use Prim.Native.Nat.{ℕ};
 ghost use Rattle.elements.specs.declared.ptype.Class.the-variants.{Signed, Float};
 ghost use Rattle.elements.specs.Kinds.{is-width};
-ghost use Rattle.elements.specs.Keys.{key-of, key-by, by-key, low-bytes, sign-bit};
+ghost use Rattle.elements.specs.Keys.{key-of, key-by, by-key, low-bytes};
 use crate::ptype::Class;
 use crate::ptype::PType;
 use std::cmp::Ordering;
@@ -35,14 +35,6 @@ fn signed_key(width: usize, pattern: u64) -> i64
     }
 }
 
-// The sign bit of `width` bytes.
-fn sign_of(width: usize) -> u64
-    requires { ⌜ is-width width ≡ true ⌝ }
-    ensures { λ r. ⌜ r ≡ sign-bit width ⌝ }
-{
-    1u64 << (8 * width - 1)
-}
-
 // The key of the float in the lowest `width` bytes. Without a branch: where the sign bit is set, all bits below it are flipped,
 // and the number is then read as a signed one.
 fn float_key(width: usize, pattern: u64) -> i64
@@ -51,7 +43,7 @@ fn float_key(width: usize, pattern: u64) -> i64
 {
     let low = low_number(width, pattern);
     let set = low >> (8 * width - 1);
-    let flip = 0u64.wrapping_sub(set) & (sign_of(width) - 1);
+    let flip = 0u64.wrapping_sub(set) >> (65 - 8 * width);
     signed_key(width, low ^ flip)
 }
 

@@ -18,7 +18,7 @@ returns c =
     let some : 0 < w = grind (arith, tells) in
     let most : w ≤ 8 = grind (arith, tells) in
     let fits : low < 2 ^ (8 * w) = subst (λ x. x < 2 ^ (8 * w)) (sym (c .low-number-low .ensures)) (mod-below (c .args .pattern) (2 ^ (8 * w)) (pow-pos (8 * w))) in
-    let flip = bitAnd ((0 + (2 ^ 64 - low / 2 ^ (8 * w - 1))) % 2 ^ 64) (c .sign-of .result - 1) in
+    let flip = (0 + (2 ^ 64 - low / 2 ^ (8 * w - 1))) % 2 ^ 64 / 2 ^ (65 - 8 * w) in
     toZ-ofZ w64 (c .signed-key .result) (record { sfits = c .signed-key .ok }) ∙ c .signed-key .ensures
-    ∙ float-form w low flip some most fits (ap (λ h. bitAnd ((0 + (2 ^ 64 - low / 2 ^ (8 * w - 1))) % 2 ^ 64) (h - 1)) (c .sign-of .ensures))
+    ∙ float-form w low flip some most fits (ap (λ k. (0 + (2 ^ 64 - low / 2 ^ (8 * w - 1))) % 2 ^ 64 / 2 ^ k) (omega arith))
     ∙ ap (key-by Float w) (c .low-number-low .ensures)
