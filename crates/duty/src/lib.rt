@@ -1,0 +1,2 @@
+// What the duty board asks of its packet counts.
+pub mod file;
