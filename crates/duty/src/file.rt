@@ -1,22 +1,15 @@
-// Board files: a station to a line, NAME|COUNT|CHANNELS.
+// The bytes of board files: fields and decimal numbers.
 ghost use mathlib.Core.Path.{_≡_};
-ghost use lib.ListN.{length};
+ghost use Prim.Native.Nat.{ℕ, _+_, _<_};
+ghost use lib.ListN.{length, take, drop};
+ghost use Rattle.std.specs.Options.{Cases};
+ghost use Rattle.std.specs.declared.option.Option.the-variants.{Some, None};
 ghost use Rattle.duty.specs.Files.{place, digit-after, digits-from};
-
-// What is wrong with a line.
-#[derive(Clone, Copy, PartialEq, Eq, Debug)]
-pub enum LineFault {
-    // It has not three fields.
-    Fields,
-    // It has no name.
-    Name,
-    // Its count is no decimal number of at most 64 bits.
-    Count,
-}
 
 // The place of the first byte b.
 pub fn find_byte(bytes: &[u8], b: u8) -> Option<usize>
-    ensures { λ r. ⌜ r ≡ place b (now (bytes .entry)) ⌝ }
+    ensures value { λ r. ⌜ r ≡ place b (now (bytes .entry)) ⌝ }
+    ensures within { λ r. ⌜ Cases r (Unit {0}) (λ i. i < length (now (bytes .entry))) ⌝ }
 {
     for (i, x) in bytes.iter().enumerate() {
         if *x == b {
@@ -24,6 +17,16 @@ pub fn find_byte(bytes: &[u8], b: u8) -> Option<usize>
         }
     }
     None
+}
+
+// What stands before the first byte b, and what stands after it.
+pub fn split_once<'a>(bytes: &'a [u8], b: u8) -> Option<(&'a [u8], &'a [u8])>
+    ensures { λ r. ⌜ Cases r (place b (now (bytes .entry)) ≡ None) (λ parts. (i : ℕ) × (place b (now (bytes .entry)) ≡ Some i) × (now (parts .0) ≡ take i (now (bytes .entry))) × (now (parts .1) ≡ drop (i + 1) (now (bytes .entry)))) ⌝ }
+{
+    match find_byte(bytes, b) {
+        Some(i) => Some((&bytes[0..i], &bytes[i + 1..])),
+        None => None,
+    }
 }
 
 // One decimal digit more behind a number: none for another byte, and past 64 bits.

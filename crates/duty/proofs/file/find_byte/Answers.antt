@@ -15,8 +15,12 @@ returns-then-x-b c =
     let b = c .args .b in
     let xs = c .args .bytes .now in
     let i = c .loop-i .i in
-    sym (c .loop-i .inv ∙ at-drop-more (place-from i b) xs i 0 (c .loop-i-test .taken)
-      ∙ cond-true (eqb (getD xs i 0) b) (Some i) (place-from (i + 1) b (drop (i + 1) xs)) (eq-eqb (getD xs i 0) b (c .if-x-b .taken)))
+    record {
+      value =
+          sym (c .loop-i .inv ∙ at-drop-more (place-from i b) xs i 0 (c .loop-i-test .taken)
+          ∙ cond-true (eqb (getD xs i 0) b) (Some i) (place-from (i + 1) b (drop (i + 1) xs)) (eq-eqb (getD xs i 0) b (c .if-x-b .taken)));
+      within = c .loop-i-test .taken;
+    }
 
 pub loop-i-again : need.loop-i-again
 loop-i-again c =
@@ -31,4 +35,4 @@ returns c =
     let b = c .args .b in
     let xs = c .args .bytes .now in
     let i = c .loop-i .i in
-    sym (c .loop-i .inv ∙ at-drop-all (place-from i b) xs i (c .loop-i-test .left))
+    record { value = sym (c .loop-i .inv ∙ at-drop-all (place-from i b) xs i (c .loop-i-test .left)); within = tt }
