@@ -8,10 +8,7 @@ ghost use Rattle.std.specs.Joined.{joined};
 ghost use Rattle.std.specs.Of.Vec.{vec-items};
 ghost use Rattle.std.specs.Vec.{made};
 ghost use Rattle.rows.specs.Bits.{bytes-of};
-ghost use Rattle.elements.specs.declared.ptype.PType.{PType};
-ghost use Rattle.numbers.specs.declared.validity.Validity.{Validity};
-ghost use Rattle.numbers.specs.Columns.{number-rows};
-ghost use Rattle.duty.specs.Counts.{count-rows};
+ghost use Rattle.duty.specs.Counts.{area-rows, count-rows};
 ghost use Rattle.duty.specs.Layout.{count-bytes, count-value, present};
 use rows::packing::Results;
 use rows::packing::pack;
@@ -57,7 +54,7 @@ fn push_bitmap(bytes: &mut Vec<u8>, counts: &[Option<u64>]) -> Result<(), AllocE
 
 // The counts as U64 values from byte 0 on, and behind them the bitmap of those that are there.
 pub fn count_area(heap: Global, counts: &[Option<u64>]) -> Result<Vec<u8>, AllocError>
-    ensures { λ r. ⌜ made r (λ v. number-rows PType.U64 (vec-items v) 0 (Validity.Bitmap (8 * length (now (counts .entry)))) (length (now (counts .entry))) ≡ count-rows (now (counts .entry))) ⌝ }
+    ensures { λ r. ⌜ made r (λ v. area-rows (vec-items v) (length (now (counts .entry))) ≡ count-rows (now (counts .entry))) ⌝ }
 {
     let mut bytes = Vec::new(heap);
     push_values(&mut bytes, counts)?;

@@ -20,7 +20,8 @@ pub struct Numbers<'a, L, R> {
 
 impl<'a, L: ElementKind, R: ElementKind> Numbers<'a, L, R> {
     pub fn new(left: NumberColumn<'a, L>, right: NumberColumn<'a, R>) -> Numbers<'a, L, R>
-        ensures { λ r. ⌜ r .left ≡ left .entry ⌝ ∗ ⌜ r .right ≡ right .entry ⌝ }
+        ensures left_list { λ r. ⌜ column-rows (L·ElementKind .kind) (now (r .left .bytes)) (r .left .start) (r .left .validity) (r .left .len) ≡ column-rows (L·ElementKind .kind) (now (left .entry .bytes)) (left .entry .start) (left .entry .validity) (left .entry .len) ⌝ }
+        ensures right_list { λ r. ⌜ column-rows (R·ElementKind .kind) (now (r .right .bytes)) (r .right .start) (r .right .validity) (r .right .len) ≡ column-rows (R·ElementKind .kind) (now (right .entry .bytes)) (right .entry .start) (right .entry .validity) (right .entry .len) ⌝ }
     {
         Numbers { left, right }
     }

@@ -92,7 +92,7 @@ pub leaves : (xs ys : List Row) (n room k : ℕ) (bytes out after : List ℕ) (r
 leaves xs ys n room k bytes out after r granted answer writes =
     writes ∙ ap (λ q. written q bytes out) (answer ∙ sym granted) ∙ ap (λ j. bytes ++ drop j out) (grants xs ys n room k granted)
 
-collected-length : (xs ys : List Row) (op : CompareOperator) (n : ℕ) → length (collected xs ys op n) ≡ bytes-for n
+pub collected-length : (xs ys : List Row) (op : CompareOperator) (n : ℕ) → length (collected xs ys op n) ≡ bytes-for n
 collected-length xs ys op n = length-map-counting (byte-at (result xs ys op) n) 0 (bytes-for n)
 
 pub first-bytes : (xs ys : List Row) (op : CompareOperator) (n : ℕ) (rest : List ℕ) → take (bytes-for n) (collected xs ys op n ++ rest) ≡ collected xs ys op n

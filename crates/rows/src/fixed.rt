@@ -14,7 +14,8 @@ pub struct FixedRow<C> {
 
 impl<C: RowComparator> FixedRow<C> {
     pub fn new(below: C) -> FixedRow<C>
-        ensures { λ r. ⌜ r .below ≡ below ⌝ }
+        ensures left_list { λ r. ⌜ C·RowComparator .left (r .below) ≡ C·RowComparator .left below ⌝ }
+        ensures right_list { λ r. ⌜ C·RowComparator .right (r .below) ≡ C·RowComparator .right below ⌝ }
     {
         FixedRow { below }
     }
