@@ -11,21 +11,21 @@ use std::alloc::Refused;
 
 // A station of a board. A count that is not there is missing, and not zero.
 #[derive(Drop)]
-pub struct Station {
+pub(crate) struct Station {
     pub name: Vec<u8>,
     pub count: Option<u64>,
 }
 
 // What is wrong with a line.
 #[derive(Clone, Copy, Debug)]
-pub enum LineFault {
+pub(crate) enum LineFault {
     Fields,
     Name,
     Count,
 }
 
 impl LineFault {
-    pub fn text(self) -> &'static str {
+    pub(crate) fn text(self) -> &'static str {
         match self {
             LineFault::Fields => "a line is NAME|COUNT|CHANNELS, with two bars",
             LineFault::Name => "the station has no name",
@@ -36,7 +36,7 @@ impl LineFault {
 
 // Why a file is not taken.
 #[derive(Clone, Copy, Debug)]
-pub enum FileFault {
+pub(crate) enum FileFault {
     Memory,
     Line { number: usize, fault: LineFault },
 }
@@ -113,7 +113,7 @@ fn is_blank(line: &[u8]) -> bool {
 }
 
 // The stations of a file, in the order of its lines.
-pub fn read_stations(heap: Global, text: &[u8]) -> Result<Vec<Station>, FileFault> {
+pub(crate) fn read_stations(heap: Global, text: &[u8]) -> Result<Vec<Station>, FileFault> {
     let mut stations = Vec::new(heap);
     let mut start = 0usize;
     let mut number = 0usize;
