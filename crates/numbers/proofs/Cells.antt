@@ -1,12 +1,10 @@
 -- Rows of a number column. Assumes nothing.
-use mathlib.Core.Path.{_≡_, refl, sym, ap, ap₂, subst, _∙_}
+use mathlib.Core.Path.{_≡_, refl, sym, ap, subst, _∙_}
 use mathlib.Core.Bool.{Bool, true, false, cond, _||_}
-use mathlib.Core.Logic.{⊎-elim}
-use mathlib.Core.List.{List, map}
+use mathlib.Core.List.{List}
 use Prim.Native.Nat.{ℕ, _+_, _*_, _≤_, _<_, min}
 use native.Mathlib.Nat.{mul-add, mul-one}
 use native.Mathlib.Omega.{arith}
-use lib.Dec.{ltb}
 use lib.IntN.{ℤ}
 use lib.Signed.{_<ℤ_}
 use lib.ListN.{length}
@@ -14,7 +12,7 @@ use Rattle.std.proofs.shelf.Bits.{mul-le}
 use Rattle.std.proofs.shelf.Counted.{getD-map-counting, length-map-counting}
 use Rattle.std.proofs.shelf.Lists.{getD-past}
 use Rattle.std.proofs.shelf.Signed.{ints}
-use Rattle.std.proofs.shelf.Tests.{cases-bool, ltb-false, or-parts}
+use Rattle.std.proofs.shelf.Tests.{ltb-false}
 use Rattle.std.proofs.shelf.Ways.{tells}
 use Rattle.std.specs.Options.{Cases, isSome}
 use Rattle.std.specs.Orderings.{Ranked}
@@ -22,12 +20,9 @@ use Rattle.std.specs.declared.cmp.Ordering.{Ordering}
 use Rattle.std.specs.declared.cmp.Ordering.the-variants.{Less, Equal, Greater}
 use Rattle.std.specs.declared.option.Option.{Option}
 use Rattle.std.specs.declared.option.Option.the-variants.{Some, None}
-use Rattle.faults.specs.declared.ColumnFault.{ColumnFault}
 use Rattle.faults.specs.declared.ColumnFault.the-variants.{Range, Rows}
-use Rattle.rows.specs.Bits.{bytes-for}
-use Rattle.rows.specs.Row.{Row, null, number, row, order}
+use Rattle.rows.specs.Row.{null, number, row, order}
 use Rattle.numbers.specs.declared.validity.Validity.{Validity}
-use Rattle.numbers.specs.declared.validity.Validity.the-variants.{NonNullable, AllValid, AllInvalid, Bitmap}
 use Rattle.elements.specs.declared.ptype.PType.{PType}
 use Rattle.elements.specs.Kinds.{width-of}
 use Rattle.numbers.specs.Columns.{cell, cells, column-rows, key-at, valid-at, read-row, number-fault, standing, too-many, ends-past, validity-past}

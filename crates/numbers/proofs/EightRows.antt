@@ -1,28 +1,24 @@
 -- Bytes of results from bytes of valid rows and of compared keys. Assumes nothing.
 use mathlib.Core.Path.{_≡_, refl, sym, ap, ap₂, _∙_}
 use mathlib.Core.Bool.{Bool, true, false, cond, not, _&&_, _||_}
-use mathlib.Core.List.{List}
-use Prim.Native.Nat.{ℕ, zero, suc, _+_, _-_, _/_, _%_, _^_, _≤_, _<_}
+use Prim.Native.Nat.{ℕ, zero, suc, _+_, _-_, _%_, _^_, _≤_, _<_}
 use native.Mathlib.Nat.{zero-div}
 use native.Mathlib.Omega.{arith}
 use lib.Bits.{bitAnd, bitOr, bitXor}
 use lib.Dec.{eqb, ltb}
-use lib.IntN.{ℤ, pos}
-use lib.ListN.{replicate}
-use Rattle.std.proofs.shelf.Lists.{getD-replicate}
+use lib.IntN.{ℤ}
 use Rattle.std.proofs.shelf.Tests.{cond-true, lt-ltb}
 use Rattle.std.specs.Keys.{rankZ}
 use Rattle.std.specs.Orderings.{isEq, isLt}
-use Rattle.std.specs.declared.cmp.Ordering.{Ordering}
 use Rattle.rows.specs.Bits.{bits}
-use Rattle.rows.specs.Row.{Row, number, order, row}
-use Rattle.rows.specs.Operators.{holds, inverted, swapped, Complements}
+use Rattle.rows.specs.Row.{Row, order, row}
+use Rattle.rows.specs.Operators.{holds, swapped, Complements}
 use Rattle.rows.specs.declared.operator.CompareOperator.{CompareOperator}
 use Rattle.rows.proofs.BitLaws.{bits-same, bits-and, bits-or, bits-xor, bits-not, bits-of}
 use Rattle.rows.proofs.Collections.{mirrors}
 use Rattle.rows.proofs.Orders.{row-order}
 use Rattle.numbers.specs.Columns.{cell, cells}
-use Rattle.numbers.specs.Eights.{bit, nth, eighth}
+use Rattle.numbers.specs.Eights.{bit, eighth}
 use Rattle.numbers.proofs.Cells.{row-cell}
 
 -- what was packed of results that are known below eight
@@ -104,7 +100,3 @@ spread op e s f g F G h left right =
 pub in-column : (valid : ℕ → Bool) (key : ℕ → ℤ) (n s v : ℕ) (keys : ℕ → ℤ) → s + 8 ≤ n → ((b : ℕ) → b < 8 → bit v b ≡ valid (s + b)) → ((b : ℕ) → b < 8 → keys b ≡ key (s + b))
     → (b : ℕ) → b < 8 → eighth v keys b ≡ row (cells valid key n) (s + b)
 in-column valid key n s v keys h vs ks b l = ap₂ cell (vs b l) (ks b l) ∙ sym (row-cell valid key n (s + b) (omega arith))
-
--- eight times one key
-pub one-key : (key : ℤ) (b : ℕ) → b < 8 → eighth 255 (nth (replicate 8 key)) b ≡ number key
-one-key key b l = ap₂ cell (all-set b l) (getD-replicate 8 b key (pos 0) l)

@@ -1,2 +1,4 @@
 pub mod Cells
 pub mod EightRows
+pub mod Elements
+pub mod Vectors

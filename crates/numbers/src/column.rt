@@ -1,15 +1,18 @@
 // A number column that is read in place.
-ghost use mathlib.Core.Bool.{Bool};
-ghost use mathlib.Core.List.{List};
+ghost use mathlib.Core.Bool.{true, false};
 ghost use mathlib.Core.Path.{_≡_};
 ghost use Prim.Native.Nat.{ℕ, _+_, _*_, _<_, _≤_};
 ghost use denote.Ref.{now};
 ghost use lib.ListN.{length};
 ghost use Rattle.std.specs.Results.{Cases};
+ghost use Rattle.std.specs.Options.{Cases as Option-cases};
 ghost use Rattle.elements.specs.Kinds.{width-of};
-ghost use Rattle.rows.specs.Row.{row};
+ghost use Rattle.rows.specs.Row.{null, number, row};
 ghost use Rattle.numbers.specs.Columns.{valid-at, ends-past, validity-past, number-fault, fault-of, key-at, number-rows, column-rows, standing, read-row};
-ghost use Rattle.numbers.specs.Eights.{bit, nth};
+ghost use Rattle.numbers.specs.Eights.{bit, element-key, Lie-in};
+use crate::lanes::Beside;
+use crate::lanes::Eight;
+use crate::lanes::Fixed;
 use crate::validity::Validity;
 use elements::kind::ElementKind;
 use faults::ColumnFault;
@@ -117,26 +120,9 @@ impl<'a, K: ElementKind> NumberColumn<'a, K> {
         }
     }
 
-    // Where element i begins.
-    fn place(&self, i: usize) -> usize
-        requires { ⌜ i < standing (width-of (K·ElementKind .kind)) (now (now self .bytes)) (now self .start) (now self .validity) (now self .len) ⌝ }
-        ensures value { λ r. ⌜ r ≡ now (self .entry) .start + width-of (K·ElementKind .kind) * i ⌝ }
-        ensures within { λ r. ⌜ r + width-of (K·ElementKind .kind) ≤ length (now (now (self .entry) .bytes)) ⌝ }
-    {
-        self.start + K::element_width() * i
-    }
-
-    // The key of element i, whether its row is valid or not.
-    pub(crate) fn key(&self, i: usize) -> i128
-        requires { ⌜ i < standing (width-of (K·ElementKind .kind)) (now (now self .bytes)) (now self .start) (now self .validity) (now self .len) ⌝ }
-        ensures { λ r. ⌜ r ≡ key-at (K·ElementKind .kind) (now (now (self .entry) .bytes)) (now (self .entry) .start) i ⌝ }
-    {
-        K::key_of(K::read(self.bytes, self.place(i)))
-    }
-
-    // The key of row i, or none where the row is null or past the end.
-    pub fn get(&self, i: usize) -> Option<i128>
-        ensures { λ r. ⌜ read-row r ≡ row (column-rows (K·ElementKind .kind) (now (now (self .entry) .bytes)) (now (self .entry) .start) (now (self .entry) .validity) (now (self .entry) .len)) i ⌝ }
+    // The element of row i eight times, or none where the row is null or past the end.
+    pub(crate) fn repeated(&self, i: usize) -> Option<Eight<'a, Fixed>>
+        ensures { λ r. ⌜ Option-cases r (row (column-rows (K·ElementKind .kind) (now (now (self .entry) .bytes)) (now (self .entry) .start) (now (self .entry) .validity) (now (self .entry) .len)) i ≡ null) (λ e. Lie-in (width-of (K·ElementKind .kind)) (now (e .bytes)) (e .start) true × ((b : ℕ) → row (column-rows (K·ElementKind .kind) (now (now (self .entry) .bytes)) (now (self .entry) .start) (now (self .entry) .validity) (now (self .entry) .len)) i ≡ number (element-key (K·ElementKind .kind) (now (e .bytes)) (e .start) true b))) ⌝ }
     {
         if i >= self.rows() {
             return None;
@@ -144,19 +130,40 @@ impl<'a, K: ElementKind> NumberColumn<'a, K> {
         if !self.is_valid(i) {
             return None;
         }
-        Some(self.key(i))
+        let bytes = self.bytes;
+        let start = self.start + K::element_width() * i;
+        let spread: PhantomData<Fixed> = PhantomData;
+        Some(Eight {
+            bytes,
+            start,
+            spread,
+        })
     }
 
-    // The keys of elements 8k to 8k + 7.
-    pub(crate) fn eight_keys(&self, k: usize) -> [i128; 8]
-        requires { ⌜ 8 * k + 8 ≤ standing (width-of (K·ElementKind .kind)) (now (now self .bytes)) (now self .start) (now self .validity) (now self .len) ⌝ }
-        ensures { λ r. ⌜ ((b : ℕ) → b < 8 → nth r b ≡ key-at (K·ElementKind .kind) (now (now (self .entry) .bytes)) (now (self .entry) .start) (8 * k + b)) ⌝ }
+    // The key of row i, or none where the row is null or past the end.
+    pub fn get(&self, i: usize) -> Option<i128>
+        ensures { λ r. ⌜ read-row r ≡ row (column-rows (K·ElementKind .kind) (now (now (self .entry) .bytes)) (now (self .entry) .start) (now (self .entry) .validity) (now (self .entry) .len)) i ⌝ }
     {
-        let mut keys = [0i128; 8];
-        for b in 0..8usize {
-            keys[b] = self.key(8 * k + b);
+        match self.repeated(i) {
+            Some(element) => Some(K::key_of(K::read(element.bytes, element.start))),
+            None => None,
         }
-        keys
+    }
+
+    // The elements 8k to 8k + 7.
+    pub(crate) fn eight(&self, k: usize) -> Eight<'a, Beside>
+        requires { ⌜ 8 * k + 8 ≤ standing (width-of (K·ElementKind .kind)) (now (now self .bytes)) (now self .start) (now self .validity) (now self .len) ⌝ }
+        ensures within { λ r. ⌜ Lie-in (width-of (K·ElementKind .kind)) (now (r .bytes)) (r .start) false ⌝ }
+        ensures means { λ r. ⌜ ((b : ℕ) → element-key (K·ElementKind .kind) (now (r .bytes)) (r .start) false b ≡ key-at (K·ElementKind .kind) (now (now (self .entry) .bytes)) (now (self .entry) .start) (8 * k + b)) ⌝ }
+    {
+        let start = self.start + K::element_width() * (8 * k);
+        let bytes = self.bytes;
+        let spread: PhantomData<Beside> = PhantomData;
+        Eight {
+            bytes,
+            start,
+            spread,
+        }
     }
 
     // The valid rows among rows 8k to 8k + 7.

@@ -6,6 +6,12 @@ use crate::column::NumberColumn;
 use crate::eight::KeyPairs;
 use crate::eight::KeyPairsEight;
 use crate::eight::eight_results;
+use crate::lanes::Beside;
+use crate::lanes::BesideSpread;
+use crate::lanes::Fixed;
+use crate::lanes::FixedSpread;
+use crate::lanes::eight_keys;
+use crate::same::element_results;
 use elements::kind::ElementKind;
 use rows::comparator::RowComparator;
 use rows::operator::FixedOperator;
@@ -47,25 +53,19 @@ pub impl<'a, L: ElementKind, R: ElementKind> RowComparator for Numbers<'a, L, R>
     fn whole<O: FixedOperator>(&self, k: usize) -> Option<u8> {
         let left_valid = self.left.valid_byte(k);
         let right_valid = self.right.valid_byte(k);
-        let left = self.left.eight_keys(k);
-        let right = self.right.eight_keys(k);
-        Some(eight_results::<O, KeyPairs>(
-            left_valid,
-            right_valid,
-            &KeyPairs { left, right },
-        ))
+        let left = self.left.eight(k);
+        let right = self.right.eight(k);
+        Some(element_results::<O, L, R, Beside>(left_valid, right_valid, left, right))
     }
 
     fn against<O: FixedOperator>(&self, k: usize, j: usize) -> Option<u8> {
         let left_valid = self.left.valid_byte(k);
-        let left = self.left.eight_keys(k);
-        match self.right.get(j) {
-            Some(key) => {
-                let right = [key; 8];
-                Some(eight_results::<O, KeyPairs>(left_valid, 255, &KeyPairs { left, right }))
-            }
+        let left = self.left.eight(k);
+        match self.right.repeated(j) {
+            Some(right) => Some(element_results::<O, L, R, Fixed>(left_valid, 255, left, right)),
             // A null row has no key: any will do.
             None => {
+                let left = eight_keys::<L, Beside>(&left);
                 let right = left;
                 Some(eight_results::<O, KeyPairs>(left_valid, 0, &KeyPairs { left, right }))
             }

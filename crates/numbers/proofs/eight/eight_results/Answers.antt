@@ -1,6 +1,5 @@
 use mathlib.Core.Path.{_≡_, refl, sym, ap, _∙_}
 use Prim.Native.Nat.{ℕ, _-_}
-use Rattle.std.specs.declared.cmp.Ordering.{Ordering}
 use Rattle.std.specs.declared.cmp.Ordering.the-variants.{Less, Equal, Greater}
 use Rattle.rows.specs.Bits.{bits}
 use Rattle.rows.specs.Row.{Row, order}
@@ -49,7 +48,7 @@ returns-in-NotEq g c =
     let r = m .right (c .args .pairs .now) in
     at-operator (g .O·FixedOperator .means) NotEq (eighth v l) (eighth w r) _ (sym (c .operator .ensures) ∙ c .in-NotEq .is)
     (others Eq NotEq (eighth v l) (eighth w r) (c .equal-rows-in-NotEq .result) not-eq
-      (c .equal-rows-in-NotEq .ensures ∙ equal v w (c .fits .left-valid .fits) (c .fits .right-valid .fits) l r (c .alike-in-NotEq .result) (c .alike-in-NotEq .ensures)))
+    (c .equal-rows-in-NotEq .ensures ∙ equal v w (c .fits .left-valid .fits) (c .fits .right-valid .fits) l r (c .alike-in-NotEq .result) (c .alike-in-NotEq .ensures)))
 
 pub returns-in-Lt : need.returns-in-Lt
 returns-in-Lt g c =
@@ -70,7 +69,7 @@ returns-in-Gte g c =
     let r = m .right (c .args .pairs .now) in
     at-operator (g .O·FixedOperator .means) Gte (eighth v l) (eighth w r) _ (sym (c .operator .ensures) ∙ c .in-Gte .is)
     (others Lt Gte (eighth v l) (eighth w r) (c .lesser-rows-in-Gte .result) not-less
-      (c .lesser-rows-in-Gte .ensures ∙ lesser v w (c .fits .left-valid .fits) (c .fits .right-valid .fits) l r (c .below-in-Gte .result) (c .below-in-Gte .ensures)))
+    (c .lesser-rows-in-Gte .ensures ∙ lesser v w (c .fits .left-valid .fits) (c .fits .right-valid .fits) l r (c .below-in-Gte .result) (c .below-in-Gte .ensures)))
 
 pub returns-in-Gt : need.returns-in-Gt
 returns-in-Gt g c =
@@ -81,7 +80,7 @@ returns-in-Gt g c =
     let r = m .right (c .args .pairs .now) in
     at-operator (g .O·FixedOperator .means) Gt (eighth v l) (eighth w r) _ (sym (c .operator .ensures) ∙ c .in-Gt .is)
     (exchanged Lt (eighth w r) (eighth v l) (c .lesser-rows-in-Gt .result)
-      (c .lesser-rows-in-Gt .ensures ∙ lesser w v (c .fits .right-valid .fits) (c .fits .left-valid .fits) r l (c .above .result) (c .above .ensures)))
+    (c .lesser-rows-in-Gt .ensures ∙ lesser w v (c .fits .right-valid .fits) (c .fits .left-valid .fits) r l (c .above .result) (c .above .ensures)))
 
 pub returns-in-Lte : need.returns-in-Lte
 returns-in-Lte g c =
@@ -92,5 +91,5 @@ returns-in-Lte g c =
     let r = m .right (c .args .pairs .now) in
     at-operator (g .O·FixedOperator .means) Lte (eighth v l) (eighth w r) _ (sym (c .operator .ensures) ∙ c .in-Lte .is)
     (others Gt Lte (eighth v l) (eighth w r) (c .lesser-rows-in-Lte .result) not-greater
-      (exchanged Lt (eighth w r) (eighth v l) (c .lesser-rows-in-Lte .result)
-        (c .lesser-rows-in-Lte .ensures ∙ lesser w v (c .fits .right-valid .fits) (c .fits .left-valid .fits) r l (c .above-in-Lte .result) (c .above-in-Lte .ensures))))
+    (exchanged Lt (eighth w r) (eighth v l) (c .lesser-rows-in-Lte .result)
+    (c .lesser-rows-in-Lte .ensures ∙ lesser w v (c .fits .right-valid .fits) (c .fits .left-valid .fits) r l (c .above-in-Lte .result) (c .above-in-Lte .ensures))))

@@ -1,5 +1,4 @@
 use mathlib.Core.Path.{sym, _∙_}
-use borrow.Author.Needs.{needs}
 use Rattle.elements.specs.Kinds.{width-of}
 use Rattle.numbers.specs.Columns.{valid-at, key-at, standing}
 use Rattle.numbers.proofs.Cells.{cells-length, standing-all}

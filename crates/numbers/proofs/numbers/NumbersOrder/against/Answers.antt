@@ -1,24 +1,19 @@
-use mathlib.Core.Path.{_≡_, sym, ap, ap₂, _∙_}
-use mathlib.Core.Bool.{false}
-use Prim.Native.Nat.{ℕ, _+_, _*_, _<_, _≤_}
-use lib.ListN.{replicate}
-use mir.Syntax.{w128}
-use mir.Val.{SFits, toZ, ofZ}
-use borrow.Author.Needs.{needs}
-use Rattle.std.proofs.shelf.Signed.{toZ-ofZ}
+use mathlib.Core.Path.{sym, ap, _∙_}
+use mathlib.Core.Bool.{true}
+use Prim.Native.Nat.{_*_}
 use Rattle.elements.specs.Kinds.{width-of}
-use Rattle.rows.specs.Row.{null, number, row}
+use Rattle.rows.specs.Row.{row}
 use Rattle.numbers.specs.Columns.{cell, valid-at, key-at, column-rows, standing}
-use Rattle.numbers.specs.Eights.{eighth, nth}
+use Rattle.numbers.specs.Eights.{nth, element-key}
 use Rattle.numbers.proofs.Cells.{stands}
-use Rattle.numbers.proofs.EightRows.{spread, in-column, one-key, none-set}
+use Rattle.numbers.proofs.EightRows.{spread, in-column, all-set, none-set}
 use Rattle.numbers.proofs.numbers.NumbersOrder.against.Needs as need
 
 pub valid-byte-left-valid-requires : need.valid-byte-left-valid-requires
 valid-byte-left-valid-requires g c κs = let l = c .args .self .now .left in stands (g .L·ElementKind .kind) (l .bytes .now) (l .start) (l .validity) (l .len) _ (c .pre .0)
 
-pub eight-keys-left-requires : need.eight-keys-left-requires
-eight-keys-left-requires g c κs = let l = c .args .self .now .left in stands (g .L·ElementKind .kind) (l .bytes .now) (l .start) (l .validity) (l .len) _ (c .pre .0)
+pub eight-left-requires : need.eight-left-requires
+eight-left-requires g c κs = let l = c .args .self .now .left in stands (g .L·ElementKind .kind) (l .bytes .now) (l .start) (l .validity) (l .len) _ (c .pre .0)
 
 pub returns-in-Some : need.returns-in-Some
 returns-in-Some g c =
@@ -28,14 +23,13 @@ returns-in-Some g c =
     let q = g .R·ElementKind .kind in
     let s = 8 * c .args .k in
     let y = row (column-rows q (r .bytes .now) (r .start) (r .validity) (r .len)) (c .args .j) in
-    let key = c .in-Some .key in
-    let fits : SFits w128 key = search needs in
-    spread (g .O·FixedOperator .means) (c .eight-results .result) s _ _
+    let e = c .in-Some .right in
+    spread (g .O·FixedOperator .means) (c .element-results .result) s _ _
     (row (column-rows p (l .bytes .now) (l .start) (l .validity) (l .len))) (λ i. y)
-    (c .eight-results .ensures)
+    (c .element-results .ensures)
     (in-column (valid-at (l .validity) (l .bytes .now)) (key-at p (l .bytes .now) (l .start)) (standing (width-of p) (l .bytes .now) (l .start) (l .validity) (l .len)) s _ _
-      (stands p (l .bytes .now) (l .start) (l .validity) (l .len) _ (c .pre .0)) (c .valid-byte-left-valid .ensures) (c .eight-keys-left .ensures))
-    (λ b h. one-key (toZ w128 (ofZ w128 key)) b h ∙ ap number (toZ-ofZ w128 key fits) ∙ c .in-Some .ensures tt)
+    (stands p (l .bytes .now) (l .start) (l .validity) (l .len) _ (c .pre .0)) (c .valid-byte-left-valid .ensures) (λ b h. c .eight-left .ensures .means b))
+    (λ b h. ap (λ v. cell v (element-key q (e .bytes .now) (e .start) true b)) (all-set b h) ∙ sym (c .in-Some .ensures tt .1 b))
 
 pub returns-in-None : need.returns-in-None
 returns-in-None g c =
@@ -45,9 +39,9 @@ returns-in-None g c =
     let q = g .R·ElementKind .kind in
     let s = 8 * c .args .k in
     let y = row (column-rows q (r .bytes .now) (r .start) (r .validity) (r .len)) (c .args .j) in
-    spread (g .O·FixedOperator .means) (c .eight-results-in-None .result) s _ _
+    spread (g .O·FixedOperator .means) (c .eight-results .result) s _ _
     (row (column-rows p (l .bytes .now) (l .start) (l .validity) (l .len))) (λ i. y)
-    (c .eight-results-in-None .ensures)
+    (c .eight-results .ensures)
     (in-column (valid-at (l .validity) (l .bytes .now)) (key-at p (l .bytes .now) (l .start)) (standing (width-of p) (l .bytes .now) (l .start) (l .validity) (l .len)) s _ _
-      (stands p (l .bytes .now) (l .start) (l .validity) (l .len) _ (c .pre .0)) (c .valid-byte-left-valid .ensures) (c .eight-keys-left .ensures))
-    (λ b h. ap (λ v. cell v (nth (c .eight-keys-left .result) b)) (none-set b) ∙ c .in-None .ensures tt)
+    (stands p (l .bytes .now) (l .start) (l .validity) (l .len) _ (c .pre .0)) (c .valid-byte-left-valid .ensures) (λ b h. c .eight-keys-left .ensures b h ∙ c .eight-left .ensures .means b))
+    (λ b h. ap (λ v. cell v (nth (c .eight-keys-left .result) b)) (none-set b) ∙ sym (c .in-None .ensures tt))

@@ -1,14 +1,7 @@
-use mathlib.Core.Path.{_≡_, subst}
-use mathlib.Core.List.{List}
-use Prim.Native.Nat.{ℕ, _+_, _*_, _≤_}
-use lib.ListN.{length}
-use native.Mathlib.Omega.{arith}
-use Rattle.elements.specs.declared.ptype.PType.{PType}
+use Prim.Native.Nat.{_*_}
 use Rattle.elements.specs.Kinds.{width-of}
 use Rattle.rows.specs.Row.{row}
-use Rattle.numbers.specs.declared.validity.Validity.{Validity}
 use Rattle.numbers.specs.Columns.{valid-at, key-at, column-rows, standing}
-use Rattle.numbers.specs.Eights.{eighth}
 use Rattle.numbers.proofs.Cells.{stands}
 use Rattle.numbers.proofs.EightRows.{spread, in-column}
 use Rattle.numbers.proofs.numbers.NumbersOrder.whole.Needs as need
@@ -19,11 +12,11 @@ valid-byte-left-valid-requires g c κs = let l = c .args .self .now .left in sta
 pub valid-byte-right-valid-requires : need.valid-byte-right-valid-requires
 valid-byte-right-valid-requires g c κs = let r = c .args .self .now .right in stands (g .R·ElementKind .kind) (r .bytes .now) (r .start) (r .validity) (r .len) _ (c .pre .1 .0)
 
-pub eight-keys-left-requires : need.eight-keys-left-requires
-eight-keys-left-requires g c κs = let l = c .args .self .now .left in stands (g .L·ElementKind .kind) (l .bytes .now) (l .start) (l .validity) (l .len) _ (c .pre .0)
+pub eight-left-requires : need.eight-left-requires
+eight-left-requires g c κs = let l = c .args .self .now .left in stands (g .L·ElementKind .kind) (l .bytes .now) (l .start) (l .validity) (l .len) _ (c .pre .0)
 
-pub eight-keys-right-requires : need.eight-keys-right-requires
-eight-keys-right-requires g c κs = let r = c .args .self .now .right in stands (g .R·ElementKind .kind) (r .bytes .now) (r .start) (r .validity) (r .len) _ (c .pre .1 .0)
+pub eight-right-requires : need.eight-right-requires
+eight-right-requires g c κs = let r = c .args .self .now .right in stands (g .R·ElementKind .kind) (r .bytes .now) (r .start) (r .validity) (r .len) _ (c .pre .1 .0)
 
 pub returns : need.returns
 returns g c =
@@ -32,11 +25,11 @@ returns g c =
     let p = g .L·ElementKind .kind in
     let q = g .R·ElementKind .kind in
     let s = 8 * c .args .k in
-    spread (g .O·FixedOperator .means) (c .eight-results .result) s
+    spread (g .O·FixedOperator .means) (c .element-results .result) s
     _ _
     (row (column-rows p (l .bytes .now) (l .start) (l .validity) (l .len))) (row (column-rows q (r .bytes .now) (r .start) (r .validity) (r .len)))
-    (c .eight-results .ensures)
+    (c .element-results .ensures)
     (in-column (valid-at (l .validity) (l .bytes .now)) (key-at p (l .bytes .now) (l .start)) (standing (width-of p) (l .bytes .now) (l .start) (l .validity) (l .len)) s _ _
-      (stands p (l .bytes .now) (l .start) (l .validity) (l .len) _ (c .pre .0)) (c .valid-byte-left-valid .ensures) (c .eight-keys-left .ensures))
+    (stands p (l .bytes .now) (l .start) (l .validity) (l .len) _ (c .pre .0)) (c .valid-byte-left-valid .ensures) (λ b h. c .eight-left .ensures .means b))
     (in-column (valid-at (r .validity) (r .bytes .now)) (key-at q (r .bytes .now) (r .start)) (standing (width-of q) (r .bytes .now) (r .start) (r .validity) (r .len)) s _ _
-      (stands q (r .bytes .now) (r .start) (r .validity) (r .len) _ (c .pre .1 .0)) (c .valid-byte-right-valid .ensures) (c .eight-keys-right .ensures))
+    (stands q (r .bytes .now) (r .start) (r .validity) (r .len) _ (c .pre .1 .0)) (c .valid-byte-right-valid .ensures) (λ b h. c .eight-right .ensures .means b))
