@@ -19,7 +19,10 @@ fn count_of(stations: &[Station], name: &[u8]) -> Option<u64> {
 }
 
 // The counts of today's stations.
-pub(crate) fn counts_today(heap: Global, today: &[Station]) -> Result<Vec<Option<u64>>, AllocError> {
+pub(crate) fn counts_today(
+    heap: Global,
+    today: &[Station],
+) -> Result<Vec<Option<u64>>, AllocError> {
     let mut counts = Vec::new(heap);
     for station in today {
         counts.push(station.count)?;
@@ -64,10 +67,8 @@ pub(crate) fn compare_days(
 ) -> Result<Findings, DutyFault> {
     let fell = compare_counts(heap, today, yesterday, CompareOperator::Lt)?;
     let same = compare_counts(heap, today, yesterday, CompareOperator::Eq)?;
-    let BothWays { after: silent, .. } =
-        compare_threshold(heap, today, 0, CompareOperator::Lte)?;
-    let BothWays { after: heard, .. } =
-        compare_threshold(heap, yesterday, 0, CompareOperator::Gt)?;
+    let BothWays { after: silent, .. } = compare_threshold(heap, today, 0, CompareOperator::Lte)?;
+    let BothWays { after: heard, .. } = compare_threshold(heap, yesterday, 0, CompareOperator::Gt)?;
     let BothWays { after: missing, .. } = compare_threshold(heap, today, 0, CompareOperator::Lt)?;
     let BothWays { after: zero, .. } = compare_threshold(heap, today, 0, CompareOperator::Eq)?;
     let past = compare_threshold(heap, today, threshold, CompareOperator::Gt)?;

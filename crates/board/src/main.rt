@@ -54,8 +54,7 @@ fn read_request(rt: &LibcRuntime) -> Result<Request, AnyError> {
     let Some(today) = words.next() else {
         return example(rt);
     };
-    let (Some(yesterday), Some(threshold), None) = (words.next(), words.next(), words.next())
-    else {
+    let (Some(yesterday), Some(threshold), None) = (words.next(), words.next(), words.next()) else {
         return Err("run it as: board TODAY YESTERDAY THRESHOLD".into());
     };
     let Some(threshold) = read_digits(threshold.as_bytes()) else {
@@ -200,7 +199,10 @@ fn print_missing(
 }
 
 fn print_other(rt: &LibcRuntime, names: &str) -> Result<(), AnyError> {
-    println!(rt, "        other rows with the threshold before the sign: {names}")?;
+    println!(
+        rt,
+        "        other rows with the threshold before the sign: {names}"
+    )?;
     Ok(())
 }
 
@@ -226,7 +228,10 @@ fn print_past(
         caught.as_str(),
     )?;
     if after == before {
-        println!(rt, "        the same rows with the threshold before the sign")?;
+        println!(
+            rt,
+            "        the same rows with the threshold before the sign"
+        )?;
     } else {
         print_other(rt, again.as_str())?;
     }
@@ -251,7 +256,10 @@ fn run(rt: &LibcRuntime) -> Result<(), AnyError> {
             return Err("the counts are not compared".into());
         }
     };
-    println!(rt, "Duty board: {today} against {yesterday}, threshold {threshold}")?;
+    println!(
+        rt,
+        "Duty board: {today} against {yesterday}, threshold {threshold}"
+    )?;
     print_board(rt, stations.as_slice(), before.as_slice(), &findings)?;
     println!(rt, "Duty list")?;
     let quiet = print_quiet(rt, stations.as_slice(), &findings)?;
@@ -259,7 +267,10 @@ fn run(rt: &LibcRuntime) -> Result<(), AnyError> {
     let past = print_past(rt, stations.as_slice(), &findings, threshold)?;
     let rows = stations.len();
     let crossed = u8::from(!quiet) + u8::from(!missing) + u8::from(!past);
-    println!(rt, "Compared the counts of {rows} stations on two days; {crossed} of 3 lines crossed.")?;
+    println!(
+        rt,
+        "Compared the counts of {rows} stations on two days; {crossed} of 3 lines crossed."
+    )?;
     Ok(())
 }
 

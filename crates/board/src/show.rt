@@ -3,7 +3,22 @@ use std::alloc::AllocError;
 use std::alloc::Global;
 
 const HEX: [&str; 16] = [
-    "0", "1", "2", "3", "4", "5", "6", "7", "8", "9", "a", "b", "c", "d", "e", "f",
+    "0",
+    "1",
+    "2",
+    "3",
+    "4",
+    "5",
+    "6",
+    "7",
+    "8",
+    "9",
+    "a",
+    "b",
+    "c",
+    "d",
+    "e",
+    "f",
 ];
 
 // A name with every byte but printable ASCII escaped, so that two names that differ look different.

@@ -55,16 +55,16 @@ class-of F64 = Float
 abbrev pub coded : ℕ → Result PType ColumnFault
 coded n =
     cond (eqb n 0) (Ok U8)
-      (cond (eqb n 1) (Ok U16)
-        (cond (eqb n 2) (Ok U32)
-          (cond (eqb n 3) (Ok U64)
-            (cond (eqb n 4) (Ok I8)
-              (cond (eqb n 5) (Ok I16)
-                (cond (eqb n 6) (Ok I32)
-                  (cond (eqb n 7) (Ok I64)
-                    (cond (eqb n 8) (Ok F16)
-                      (cond (eqb n 9) (Ok F32)
-                        (cond (eqb n 10) (Ok F64) (Err Kind)))))))))))
+    (cond (eqb n 1) (Ok U16)
+    (cond (eqb n 2) (Ok U32)
+    (cond (eqb n 3) (Ok U64)
+    (cond (eqb n 4) (Ok I8)
+    (cond (eqb n 5) (Ok I16)
+    (cond (eqb n 6) (Ok I32)
+    (cond (eqb n 7) (Ok I64)
+    (cond (eqb n 8) (Ok F16)
+    (cond (eqb n 9) (Ok F32)
+    (cond (eqb n 10) (Ok F64) (Err Kind)))))))))))
 
 -- the widths that there are
 abbrev pub is-width : ℕ → Bool

@@ -8,22 +8,22 @@ use crate::kind::F32;
 use crate::kind::F32Kind;
 use crate::kind::F64;
 use crate::kind::F64Kind;
+use crate::kind::I8;
+use crate::kind::I8Kind;
 use crate::kind::I16;
 use crate::kind::I16Kind;
 use crate::kind::I32;
 use crate::kind::I32Kind;
 use crate::kind::I64;
 use crate::kind::I64Kind;
-use crate::kind::I8;
-use crate::kind::I8Kind;
+use crate::kind::U8;
+use crate::kind::U8Kind;
 use crate::kind::U16;
 use crate::kind::U16Kind;
 use crate::kind::U32;
 use crate::kind::U32Kind;
 use crate::kind::U64;
 use crate::kind::U64Kind;
-use crate::kind::U8;
-use crate::kind::U8Kind;
 use faults::ColumnFault;
 
 #[derive(Clone, Copy, PartialEq, Eq, Debug)]

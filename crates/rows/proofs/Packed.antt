@@ -107,4 +107,3 @@ packed-spare f n i h =
     ap (λ b. b / 2 ^ (i % 8) % 2) byte ∙ bits-above f (8 * (i / 8)) (min (n - 8 * (i / 8)) 8) (i % 8) (omega arith))
     (λ l. ap (λ b. b / 2 ^ (i % 8) % 2) (getD-past (bytes-of f n) (i / 8) 0 (omega (arith, length-map-counting (byte-at f n) 0 (bytes-for n)))) ∙ ap (λ x. x % 2) (zero-div (2 ^ (i % 8))))
     (cases-lt (i / 8) (bytes-for n))
-

@@ -16,6 +16,7 @@ returns c =
     let one = c .new-after-sign .ensures .right-list ∙ c .new .ensures .right-list ∙ c .in-Continue-threshold .ensures tt in
     let many = c .new-before-sign .ensures .left-list ∙ c .in-Continue-thresholds .ensures tt in
     let right = c .new-before-sign .ensures .right-list ∙ c .in-Continue-right .ensures tt in
-    let long : length (area-rows (c .args .counts .now) n) ≡ n = area-length (c .args .counts .now) n in
-    (renamed _ _ (area-rows (c .args .counts .now) n) (replicate n (row (area-rows (c .args .one .now) 1) 0)) (c .args .op) n _ _ _ left (fixed-list _ _ _ _ n left one long) size (e .writes),
-     renamed _ _ (area-rows (c .args .many .now) n) (area-rows (c .args .counts .now) n) (swapped (c .args .op)) n _ _ _ many right size (e .writes-back))
+    let long : length (area-rows (c .args .counts .now) n) ≡ n = area-length (c .args .counts .now) n in (
+      renamed _ _ (area-rows (c .args .counts .now) n) (replicate n (row (area-rows (c .args .one .now) 1) 0)) (c .args .op) n _ _ _ left (fixed-list _ _ _ _ n left one long) size (e .writes),
+      renamed _ _ (area-rows (c .args .many .now) n) (area-rows (c .args .counts .now) n) (swapped (c .args .op)) n _ _ _ many right size (e .writes-back),
+    )

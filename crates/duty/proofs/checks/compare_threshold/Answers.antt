@@ -27,9 +27,9 @@ returns c =
     let room′ : c .in-Continue-before .before .len ≡ bytes-for n = c .in-Continue-before .ensures tt .made .1 ∙ omega arith in
     let e = c .in-Continue-collect-threshold .ensures tt in
     let one-way = filled (collected xs (replicate n (row one 0)) op n) (c .as-mut-slice .result .now) (c .collect-threshold .last .after) _ (bytes-for n) _
-      (collected-length xs (replicate n (row one 0)) op n) (c .as-mut-slice .ensures .len ∙ room) room (e .0)
-      ∙ ap₂ (λ a b. collected a b op n) left fixed in
+    (collected-length xs (replicate n (row one 0)) op n) (c .as-mut-slice .ensures .len ∙ room) room (e .0)
+    ∙ ap₂ (λ a b. collected a b op n) left fixed in
     let other-way = filled (collected many xs (swapped op) n) (c .as-mut-slice-2 .result .now) (c .collect-threshold .last .before) _ (bytes-for n) _
-      (collected-length many xs (swapped op) n) (c .as-mut-slice-2 .ensures .len ∙ room′) room′ (e .1)
-      ∙ ap₂ (λ a b. collected a b (swapped op) n) right left ∙ exchange (count-rows counts) ys op n in
+    (collected-length many xs (swapped op) n) (c .as-mut-slice-2 .ensures .len ∙ room′) room′ (e .1)
+    ∙ ap₂ (λ a b. collected a b (swapped op) n) right left ∙ exchange (count-rows counts) ys op n in
     (one-way, other-way ∙ sym one-way)

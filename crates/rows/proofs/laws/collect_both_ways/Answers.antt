@@ -24,7 +24,7 @@ returns g c =
     leaves xs ys n (length out) _ (collected xs ys op n) out _ _ one (c .collect-ordering-bits .ensures .answers) (c .collect-ordering-bits .ensures .writes) in
     let second : c .collect-ordering-bits-2 .last .out ≡ collected us vs (swapped op) n ++ drop (bytes-for n) back =
     leaves us vs n (length back) _ (collected us vs (swapped op) n) back _ _ two (c .collect-ordering-bits-2 .ensures .answers)
-      (c .collect-ordering-bits-2 .ensures .writes ∙ ap (λ o. written (c .collect-ordering-bits-2 .result) (collected us vs o n) back) (c .swap .ensures .value)) in
+    (c .collect-ordering-bits-2 .ensures .writes ∙ ap (λ o. written (c .collect-ordering-bits-2 .result) (collected us vs o n) back) (c .swap .ensures .value)) in
     record {
       answers = two ∙ ap (λ q. first-refusal q (collection us vs n (length back))) one;
       writes = first ∙ ap (λ k. collected xs ys op n ++ drop k out) (sym size);
