@@ -2,10 +2,10 @@
 ghost use mathlib.Core.Path.{_≡_};
 ghost use lib.ListN.{length};
 ghost use Rattle.std.specs.declared.option.Option.the-variants.{None, Some};
-ghost use Rattle.elements.specs.Kinds.{width-of};
-ghost use Rattle.numbers.specs.Columns.{number-fault, number-rows};
+ghost use Rattle.elements.specs.Kinds.{coded, width-of};
+ghost use Rattle.numbers.specs.Columns.{column-rows, number-fault, number-rows};
 ghost use Rattle.rows.specs.Collected.{collected, collection, written};
-ghost use Rattle.export.specs.Exported.{answer, operator-of, right-list, validity-of};
+ghost use Rattle.export.specs.Exported.{exported, exported-by, filled, filled-by, operator-of, right-list, validity-of};
 use elements::kind::ElementKind;
 use elements::kind::F16;
 use elements::kind::F16Kind;
@@ -73,7 +73,10 @@ fn collect<'a, K: ElementKind>(
     op: CompareOperator,
     fixed: bool,
     out: &mut [u8],
-) -> Result<usize, CollectFault> {
+) -> Result<usize, CollectFault>
+    ensures answers { λ r. ⌜ r ≡ collection (column-rows (K·ElementKind .kind) (now (left .entry .bytes)) (left .entry .start) (left .entry .validity) (left .entry .len)) (right-list fixed (length (column-rows (K·ElementKind .kind) (now (left .entry .bytes)) (left .entry .start) (left .entry .validity) (left .entry .len))) (column-rows (K·ElementKind .kind) (now (right .entry .bytes)) (right .entry .start) (right .entry .validity) (right .entry .len))) len (length (now (out .entry))) ⌝ }
+    ensures writes { λ r. ⌜ now (out .exit) ≡ written r (collected (column-rows (K·ElementKind .kind) (now (left .entry .bytes)) (left .entry .start) (left .entry .validity) (left .entry .len)) (right-list fixed (length (column-rows (K·ElementKind .kind) (now (left .entry .bytes)) (left .entry .start) (left .entry .validity) (left .entry .len))) (column-rows (K·ElementKind .kind) (now (right .entry .bytes)) (right .entry .start) (right .entry .validity) (right .entry .len))) op len) (now (out .entry)) ⌝ }
+{
     let numbers = Numbers::new(left, right);
     if fixed {
         collect_ordering_bits(&FixedRow::new(numbers), op, len, out)
@@ -93,7 +96,10 @@ fn run<'a, K: ElementKind>(
     op: CompareOperator,
     fixed: bool,
     out: &mut [u8],
-) -> u8 {
+) -> u8
+    ensures answers { λ r. ⌜ r ≡ exported (K·ElementKind .kind) (now (bytes .entry)) left «left_validity» right «right_validity» fixed len (length (now (out .entry))) ⌝ }
+    ensures writes { λ r. ⌜ now (out .exit) ≡ filled (K·ElementKind .kind) (now (bytes .entry)) left «left_validity» right «right_validity» op fixed len r (now (out .entry)) ⌝ }
+{
     let left_column = match NumberColumn::<'a, K>::new(bytes, left, left_validity, len) {
         Ok(column) => column,
         Err(fault) => return fault.number(),
@@ -124,7 +130,10 @@ pub extern "C" fn compare_numbers(
     op: u8,
     fixed: bool,
     out: &mut [u8],
-) -> u8 {
+) -> u8
+    ensures answers { λ r. ⌜ r ≡ exported-by (coded ptype) (now (bytes .entry)) left (validity-of nullable «left_bitmap») right (validity-of nullable «right_bitmap») fixed len (length (now (out .entry))) ⌝ }
+    ensures writes { λ r. ⌜ now (out .exit) ≡ filled-by (coded ptype) (now (bytes .entry)) left (validity-of nullable «left_bitmap») right (validity-of nullable «right_bitmap») (operator-of op) fixed len r (now (out .entry)) ⌝ }
+{
     let kind = match PType::from_code(ptype) {
         Ok(kind) => kind,
         Err(fault) => return fault.number(),
