@@ -6,16 +6,14 @@ use native.Mathlib.Omega.{arith}
 use lib.IntN.{pos}
 use lib.ListN.{length, take, drop, replicate}
 use Rattle.std.proofs.shelf.Lists.{drop-all, take-at}
-use Rattle.std.proofs.shelf.Ways.{tells}
 use Rattle.std.specs.declared.option.Option.the-variants.{Some}
-use Rattle.std.specs.declared.result.Result.the-variants.{Ok, Err}
 use Rattle.elements.specs.declared.ptype.PType.the-variants.{U64}
 use Rattle.numbers.specs.declared.validity.Validity.the-variants.{Bitmap}
 use Rattle.numbers.specs.Columns.{valid-at, key-at}
 use Rattle.numbers.proofs.Cells.{cells-length}
 use Rattle.duty.specs.Counts.{area-rows, count-rows}
 use Rattle.rows.specs.Bits.{bytes-for}
-use Rattle.rows.specs.Collected.{collected, collection, first-refusal}
+use Rattle.rows.specs.Collected.{collected}
 use Rattle.rows.specs.Row.{Row, number, row}
 use Rattle.rows.specs.declared.operator.CompareOperator.{CompareOperator}
 
@@ -24,10 +22,6 @@ pub filled : (bytes before after rest : List ℕ) (n m : ℕ) → length bytes �
 filled bytes before after rest n m h k e is =
     let all : after ≡ bytes = is ∙ ap (λ xs. bytes ++ xs) (drop-all n before (omega arith)) ∙ append-nil bytes in
     ap (λ xs. take m (xs ++ rest)) all ∙ take-at bytes rest m (h ∙ sym e)
-
--- two granted collections wrote as many bytes as their results need
-pub both-granted : (xs ys us vs : List Row) (n r s k : ℕ) → Ok k ≡ first-refusal (collection xs ys n r) (collection us vs n s) → k ≡ bytes-for n
-both-granted xs ys us vs n r s k h = grind (arith, tells)
 
 -- a granted collection, with its lists by other names
 pub renamed : (L R A B : List Row) (op : CompareOperator) (n k : ℕ) (out out′ : List ℕ) → L ≡ A → R ≡ B → k ≡ bytes-for n

@@ -19,7 +19,7 @@ use Rattle.std.specs.declared.cmp.Ordering.the-variants.{Less, Equal, Greater}
 use Rattle.rows.specs.Row.{Row, row, order}
 use Rattle.rows.specs.Bits.{digit, bit-of, bytes-of, byte-at, bytes-for}
 use Rattle.rows.specs.Operators.{holds, swapped, Mirrors}
-use Rattle.rows.specs.Collected.{result, collected, collection, written}
+use Rattle.rows.specs.Collected.{result, collected, collection, first-refusal, written}
 use Rattle.rows.specs.Laws.{Exchange, Lte-goes-on, Collections, Same-bytes, Goes-on}
 use Rattle.rows.specs.declared.operator.CompareOperator.{CompareOperator}
 use Rattle.rows.specs.declared.operator.CompareOperator.the-variants.{Eq, NotEq, Gt, Gte, Lt, Lte}
@@ -85,6 +85,11 @@ lte-goes-on xs ys zs n i h k =
 -- a grant answers the number of bytes
 pub grants : (xs ys : List Row) (n room k : ℕ) → Ok k ≡ collection xs ys n room → k ≡ bytes-for n
 grants xs ys n room k h = grind (arith, tells)
+
+-- two grants
+pub grants-both : (xs ys us vs : List Row) (n r s k : ℕ) → Ok k ≡ first-refusal (collection xs ys n r) (collection us vs n s)
+    → (Ok (bytes-for n) ≡ collection xs ys n r) × (Ok (bytes-for n) ≡ collection us vs n s) × (k ≡ bytes-for n)
+grants-both xs ys us vs n r s k h = (grind (arith, tells), grind (arith, tells), grind (arith, tells))
 
 -- the output of a collection that a check granted before
 pub leaves : (xs ys : List Row) (n room k : ℕ) (bytes out after : List ℕ) (r : Result ℕ CollectFault) → Ok k ≡ collection xs ys n room

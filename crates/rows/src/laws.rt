@@ -13,6 +13,20 @@ use crate::comparator::RowComparator;
 use crate::operator::CompareOperator;
 use faults::CollectFault;
 
+// Whether both collections can be made: the first refusal, or how many bytes each needs.
+fn check_two<C: RowComparator, D: RowComparator>(
+    first: &C,
+    second: &D,
+    len: usize,
+    first_room: usize,
+    second_room: usize,
+) -> Result<usize, CollectFault>
+    ensures { λ r. ⌜ r ≡ first-refusal (collection (C·RowComparator .left (now (first .entry))) (C·RowComparator .right (now (first .entry))) len «first_room») (collection (D·RowComparator .left (now (second .entry))) (D·RowComparator .right (now (second .entry))) len «second_room») ⌝ }
+{
+    check_collection(first, len, first_room)?;
+    check_collection(second, len, second_room)
+}
+
 // Collects the operator over one comparator and the swapped operator over another.
 // Where the second tells the lists of the first exchanged, both outputs get the same bytes. A refusal leaves both as they were.
 pub fn collect_both_ways<C: RowComparator, D: RowComparator>(
@@ -28,8 +42,7 @@ pub fn collect_both_ways<C: RowComparator, D: RowComparator>(
     ensures writes_back { λ r. ⌜ now (back .exit) ≡ written r (collected (D·RowComparator .left (now (backward .entry))) (D·RowComparator .right (now (backward .entry))) (swapped op) len) (now (back .entry)) ⌝ }
     ensures law { λ r. ⌜ (D·RowComparator .left (now (backward .entry)) ≡ C·RowComparator .right (now (forward .entry)) → D·RowComparator .right (now (backward .entry)) ≡ C·RowComparator .left (now (forward .entry)) → isOk r ≡ true → Same-bytes len (now (out .exit)) (now (back .exit))) ⌝ }
 {
-    check_collection(forward, len, out.len())?;
-    let size = check_collection(backward, len, back.len())?;
+    let size = check_two(forward, backward, len, out.len(), back.len())?;
     let _ = collect_ordering_bits(forward, op, len, out);
     let _ = collect_ordering_bits(backward, op.swap(), len, back);
     Ok(size)
@@ -52,8 +65,7 @@ pub fn collect_chain<C: RowComparator, D: RowComparator, E: RowComparator>(
     ensures writes_across { λ r. ⌜ now («across_out» .exit) ≡ written r (collected (E·RowComparator .left (now (across .entry))) (E·RowComparator .right (now (across .entry))) CompareOperator.Lte len) (now («across_out» .entry)) ⌝ }
     ensures law { λ r. ⌜ (C·RowComparator .right (now (first .entry)) ≡ D·RowComparator .left (now (second .entry)) → E·RowComparator .left (now (across .entry)) ≡ C·RowComparator .left (now (first .entry)) → E·RowComparator .right (now (across .entry)) ≡ D·RowComparator .right (now (second .entry)) → isOk r ≡ true → Goes-on len (now («first_out» .exit)) (now («second_out» .exit)) (now («across_out» .exit))) ⌝ }
 {
-    check_collection(first, len, first_out.len())?;
-    check_collection(second, len, second_out.len())?;
+    check_two(first, second, len, first_out.len(), second_out.len())?;
     let size = check_collection(across, len, across_out.len())?;
     let _ = collect_ordering_bits(first, CompareOperator::Lte, len, first_out);
     let _ = collect_ordering_bits(second, CompareOperator::Lte, len, second_out);

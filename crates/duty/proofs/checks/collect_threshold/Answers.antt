@@ -3,15 +3,16 @@ use lib.ListN.{length, replicate}
 use Rattle.rows.specs.Bits.{bytes-for}
 use Rattle.rows.specs.Operators.{swapped}
 use Rattle.rows.specs.Row.{row}
+use Rattle.rows.proofs.Collections.{grants-both}
 use Rattle.duty.specs.Counts.{area-rows}
-use Rattle.duty.proofs.Outputs.{area-length, both-granted, renamed, fixed-list}
+use Rattle.duty.proofs.Outputs.{area-length, renamed, fixed-list}
 use Rattle.duty.proofs.checks.collect_threshold.Needs as need
 
 pub returns : need.returns
 returns c =
     let n = c .args .len in
     let e = c .in-Continue-collect-both-ways .ensures tt in
-    let size : c .in-Continue-collect-both-ways .field-0 ≡ bytes-for n = both-granted _ _ _ _ n _ _ _ (e .answers) in
+    let size : c .in-Continue-collect-both-ways .field-0 ≡ bytes-for n = grants-both _ _ _ _ n _ _ _ (e .answers) .2 in
     let left = c .new-after-sign .ensures .left-list ∙ c .new .ensures .left-list ∙ c .in-Continue-left .ensures tt in
     let one = c .new-after-sign .ensures .right-list ∙ c .new .ensures .right-list ∙ c .in-Continue-threshold .ensures tt in
     let many = c .new-before-sign .ensures .left-list ∙ c .in-Continue-thresholds .ensures tt in
