@@ -7,7 +7,7 @@ use Rattle.rows.specs.Bits.{bytes_of, bytes_for}
 use Rattle.rows.specs.Operators.{holds}
 use Rattle.rows.specs.declared.operator.CompareOperator.{CompareOperator}
 
--- the result_at of row i: the operator of the order of the two rows
+-- the result of row i: the operator of the order of the two rows
 abbrev pub result_at : List Row → List Row → CompareOperator → ℕ → Bool
 result_at xs ys op i = holds op (order (row xs i) (row ys i))
 
