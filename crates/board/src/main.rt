@@ -1,4 +1,6 @@
 // The duty board: two days of packet counts, and the lines of the duty list that they answer.
+#![tactic(auto)]
+
 use anyhow::anyhow;
 use day::{compare_days, counts_before, counts_today};
 use duty::checks::DutyFault;

@@ -271,7 +271,7 @@ impl ElementKind for F64 {
 
 // The law of a kind stands for every kind.
 pub fn kind_law<K: ElementKind>() -> PType
-    ensures value { result ≡ K.ElementKind.kind }
+    ensures value { result ≡ K.kind }
     ensures law { KeyLaw (width_of result) (key_of result) }
 {
     K::element_type()

@@ -1,4 +1,6 @@
 // The element kinds and the comparator of two number columns.
+#![tactic(auto)]
+
 ghost use Rattle.elements.specs.Readings.{Readings};
 ghost use Rattle.elements.specs.TotalOrder.{KeysAreTotalOrder};
 

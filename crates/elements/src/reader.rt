@@ -29,7 +29,8 @@ fn read_eight(bytes: &[u8], start: usize) -> u64
 
 // The pattern in the `width` bytes from `start` on: every number of the data is read here.
 pub(crate) fn read_pattern(bytes: &[u8], start: usize, width: usize) -> u64
-    requires { (is_width width ≡ true) × (start + width ≤ length bytes.now) }
+    requires wide { is_width width ≡ true }
+    requires within { start + width ≤ length bytes.now }
     ensures { result ≡ pattern_at width bytes.now start }
 {
     match width {

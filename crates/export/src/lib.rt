@@ -1,4 +1,6 @@
 // A C interface for the static library: two number columns of one kind in one data area.
+#![tactic(auto)]
+
 ghost use Rattle.std.specs.Prelude.{◌≡◌, length, Some, None};
 ghost use Rattle.elements.specs.Kinds.{coded, width_of};
 ghost use Rattle.numbers.specs.Columns.{column_rows, number_fault, number_rows};
@@ -50,8 +52,8 @@ fn collect<'a, K: ElementKind>(
     fixed: bool,
     out: &mut [u8],
 ) -> Result<usize, CollectFault>
-    ensures answers { result ≡ collection (column_rows K.ElementKind.kind left.entry.bytes.now left.entry.start left.entry.validity left.entry.len) (right_list fixed (length (column_rows K.ElementKind.kind left.entry.bytes.now left.entry.start left.entry.validity left.entry.len)) (column_rows K.ElementKind.kind right.entry.bytes.now right.entry.start right.entry.validity right.entry.len)) len (length out.old) }
-    ensures writes { out.new ≡ written result (collected (column_rows K.ElementKind.kind left.entry.bytes.now left.entry.start left.entry.validity left.entry.len) (right_list fixed (length (column_rows K.ElementKind.kind left.entry.bytes.now left.entry.start left.entry.validity left.entry.len)) (column_rows K.ElementKind.kind right.entry.bytes.now right.entry.start right.entry.validity right.entry.len)) op len) out.old }
+    ensures answers { result ≡ collection (column_rows K.kind left.entry.bytes.now left.entry.start left.entry.validity left.entry.len) (right_list fixed (length (column_rows K.kind left.entry.bytes.now left.entry.start left.entry.validity left.entry.len)) (column_rows K.kind right.entry.bytes.now right.entry.start right.entry.validity right.entry.len)) len (length out.old) }
+    ensures writes { out.new ≡ written result (collected (column_rows K.kind left.entry.bytes.now left.entry.start left.entry.validity left.entry.len) (right_list fixed (length (column_rows K.kind left.entry.bytes.now left.entry.start left.entry.validity left.entry.len)) (column_rows K.kind right.entry.bytes.now right.entry.start right.entry.validity right.entry.len)) op len) out.old }
 {
     let numbers = Numbers::new(left, right);
     if fixed {
@@ -73,8 +75,8 @@ fn run<'a, K: ElementKind>(
     fixed: bool,
     out: &mut [u8],
 ) -> u8
-    ensures answers { result ≡ exported K.ElementKind.kind bytes.now left left_validity right right_validity fixed len (length out.old) }
-    ensures writes { out.new ≡ filled K.ElementKind.kind bytes.now left left_validity right right_validity op fixed len result out.old }
+    ensures answers { result ≡ exported K.kind bytes.now left left_validity right right_validity fixed len (length out.old) }
+    ensures writes { out.new ≡ filled K.kind bytes.now left left_validity right right_validity op fixed len result out.old }
 {
     let left_column = match NumberColumn::<'a, K>::new(bytes, left, left_validity, len) {
         Ok(column) => column,

@@ -1,4 +1,6 @@
 // The faults that the calls of this library answer with. Each has its refusal number.
+#![tactic(auto)]
+
 ghost use Rattle.std.specs.Prelude.{◌≡◌};
 ghost use Rattle.faults.specs.Numbers.{collect_number, view_cause, at_row, column_number, column_refusal};
 

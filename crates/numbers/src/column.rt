@@ -52,7 +52,7 @@ fn find_fault<K: ElementKind>(
     validity: Validity,
     len: usize,
 ) -> Option<ColumnFault>
-    ensures { result ≡ number_fault (width_of K.ElementKind.kind) bytes.now start validity len }
+    ensures { result ≡ number_fault (width_of K.kind) bytes.now start validity len }
 {
     if len > MOST_ROWS {
         return Some(ColumnFault::Rows);
@@ -72,8 +72,8 @@ impl<'a, K: ElementKind> NumberColumn<'a, K> {
         validity: Validity,
         len: usize,
     ) -> Result<NumberColumn<'a, K>, ColumnFault>
-        ensures answers { fault_of result ≡ number_fault (width_of K.ElementKind.kind) bytes.now start validity len }
-        ensures means { IfOk result (λ c. column_rows K.ElementKind.kind c.bytes.now c.start c.validity c.len ≡ number_rows K.ElementKind.kind bytes.now start validity len) }
+        ensures answers { fault_of result ≡ number_fault (width_of K.kind) bytes.now start validity len }
+        ensures means { IfOk result (λ c. column_rows K.kind c.bytes.now c.start c.validity c.len ≡ number_rows K.kind bytes.now start validity len) }
     {
         match find_fault::<K>(bytes, start, validity, len) {
             Some(fault) => Err(fault),
@@ -92,8 +92,8 @@ impl<'a, K: ElementKind> NumberColumn<'a, K> {
 
     // How many rows there are.
     pub fn rows(&self) -> usize
-        ensures stands { result ≡ standing (width_of K.ElementKind.kind) self.now.bytes.now self.now.start self.now.validity self.now.len }
-        ensures value { result ≡ length (column_rows K.ElementKind.kind self.now.bytes.now self.now.start self.now.validity self.now.len) }
+        ensures stands { result ≡ standing (width_of K.kind) self.now.bytes.now self.now.start self.now.validity self.now.len }
+        ensures value { result ≡ length (column_rows K.kind self.now.bytes.now self.now.start self.now.validity self.now.len) }
     {
         match find_fault::<K>(self.bytes, self.start, self.validity, self.len) {
             Some(_) => 0,
@@ -103,7 +103,7 @@ impl<'a, K: ElementKind> NumberColumn<'a, K> {
 
     // Whether row i is valid.
     fn is_valid(&self, i: usize) -> bool
-        requires { i < standing (width_of K.ElementKind.kind) self.now.bytes.now self.now.start self.now.validity self.now.len }
+        requires { i < standing (width_of K.kind) self.now.bytes.now self.now.start self.now.validity self.now.len }
         ensures { result ≡ valid_at self.now.validity self.now.bytes.now i }
     {
         match self.validity {
@@ -115,7 +115,7 @@ impl<'a, K: ElementKind> NumberColumn<'a, K> {
 
     // The element of row i eight times, or none where the row is null or past the end.
     pub(crate) fn repeated(&self, i: usize) -> Option<Eight<'a, Fixed>>
-        ensures { MatchOption result (row (column_rows K.ElementKind.kind self.now.bytes.now self.now.start self.now.validity self.now.len) i ≡ null) (λ e. LieIn (width_of K.ElementKind.kind) e.bytes.now e.start true × ((b : ℕ) → row (column_rows K.ElementKind.kind self.now.bytes.now self.now.start self.now.validity self.now.len) i ≡ number (element_key K.ElementKind.kind e.bytes.now e.start true b))) }
+        ensures { MatchOption result (row (column_rows K.kind self.now.bytes.now self.now.start self.now.validity self.now.len) i ≡ null) (λ e. LieIn (width_of K.kind) e.bytes.now e.start true × ((b : ℕ) → row (column_rows K.kind self.now.bytes.now self.now.start self.now.validity self.now.len) i ≡ number (element_key K.kind e.bytes.now e.start true b))) }
     {
         if i >= self.rows() {
             return None;
@@ -135,7 +135,7 @@ impl<'a, K: ElementKind> NumberColumn<'a, K> {
 
     // The key of row i, or none where the row is null or past the end.
     pub fn get(&self, i: usize) -> Option<i128>
-        ensures { read_row result ≡ row (column_rows K.ElementKind.kind self.now.bytes.now self.now.start self.now.validity self.now.len) i }
+        ensures { read_row result ≡ row (column_rows K.kind self.now.bytes.now self.now.start self.now.validity self.now.len) i }
     {
         match self.repeated(i) {
             Some(element) => Some(K::key_of(K::read(element.bytes, element.start))),
@@ -145,9 +145,9 @@ impl<'a, K: ElementKind> NumberColumn<'a, K> {
 
     // The elements 8k to 8k + 7.
     pub(crate) fn eight(&self, k: usize) -> Eight<'a, Beside>
-        requires { 8 * k + 8 ≤ standing (width_of K.ElementKind.kind) self.now.bytes.now self.now.start self.now.validity self.now.len }
-        ensures within { LieIn (width_of K.ElementKind.kind) result.bytes.now result.start false }
-        ensures means { (b : ℕ) → element_key K.ElementKind.kind result.bytes.now result.start false b ≡ key_at K.ElementKind.kind self.now.bytes.now self.now.start (8 * k + b) }
+        requires { 8 * k + 8 ≤ standing (width_of K.kind) self.now.bytes.now self.now.start self.now.validity self.now.len }
+        ensures within { LieIn (width_of K.kind) result.bytes.now result.start false }
+        ensures means { (b : ℕ) → element_key K.kind result.bytes.now result.start false b ≡ key_at K.kind self.now.bytes.now self.now.start (8 * k + b) }
     {
         let start = self.start + K::element_width() * (8 * k);
         let bytes = self.bytes;
@@ -161,7 +161,7 @@ impl<'a, K: ElementKind> NumberColumn<'a, K> {
 
     // The valid rows among rows 8k to 8k + 7.
     pub(crate) fn valid_byte(&self, k: usize) -> u8
-        requires { 8 * k + 8 ≤ standing (width_of K.ElementKind.kind) self.now.bytes.now self.now.start self.now.validity self.now.len }
+        requires { 8 * k + 8 ≤ standing (width_of K.kind) self.now.bytes.now self.now.start self.now.validity self.now.len }
         ensures { (b : ℕ) → b < 8 → bit result b ≡ valid_at self.now.validity self.now.bytes.now (8 * k + b) }
     {
         match self.validity {

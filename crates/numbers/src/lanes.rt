@@ -48,9 +48,10 @@ pub(crate) struct Eight<'a, S> {
 
 // Where element b stands.
 fn place<K: ElementKind, S: Spread>(eight: &Eight<S>, b: usize) -> usize
-    requires { (LieIn (width_of K.ElementKind.kind) eight.now.bytes.now eight.now.start S.Spread.fixed) × (b < 8) }
-    ensures value { result ≡ at (width_of K.ElementKind.kind) eight.now.start S.Spread.fixed b }
-    ensures within { result + width_of K.ElementKind.kind ≤ length eight.now.bytes.now }
+    requires within { LieIn (width_of K.kind) eight.now.bytes.now eight.now.start S.fixed }
+    requires eight { b < 8 }
+    ensures value { result ≡ at (width_of K.kind) eight.now.start S.fixed b }
+    ensures within { result + width_of K.kind ≤ length eight.now.bytes.now }
 {
     if S::fixed() {
         eight.start
@@ -61,8 +62,8 @@ fn place<K: ElementKind, S: Spread>(eight: &Eight<S>, b: usize) -> usize
 
 // The keys of eight elements.
 pub(crate) fn eight_keys<K: ElementKind, S: Spread>(eight: &Eight<S>) -> [i128; 8]
-    requires { LieIn (width_of K.ElementKind.kind) eight.now.bytes.now eight.now.start S.Spread.fixed }
-    ensures { (b : ℕ) → b < 8 → nth result b ≡ element_key K.ElementKind.kind eight.now.bytes.now eight.now.start S.Spread.fixed b }
+    requires { LieIn (width_of K.kind) eight.now.bytes.now eight.now.start S.fixed }
+    ensures { (b : ℕ) → b < 8 → nth result b ≡ element_key K.kind eight.now.bytes.now eight.now.start S.fixed b }
 {
     let mut keys = [0i128; 8];
     for b in 0..8usize {
@@ -105,8 +106,9 @@ fn repeated(pattern: u64) -> u32x8
 
 // The patterns of eight elements of less than eight bytes.
 pub(crate) fn patterns<K: ElementKind, S: Spread>(bytes: &[u8], start: usize) -> u32x8
-    requires { (width_of K.ElementKind.kind < 8) × (LieIn (width_of K.ElementKind.kind) bytes.now start S.Spread.fixed) }
-    ensures { result ≡ eight_of (λ b. low_bytes (width_of K.ElementKind.kind) (element (width_of K.ElementKind.kind) bytes.now start S.Spread.fixed b)) }
+    requires narrow { width_of K.kind < 8 }
+    requires within { LieIn (width_of K.kind) bytes.now start S.fixed }
+    ensures { result ≡ eight_of (λ b. low_bytes (width_of K.kind) (element (width_of K.kind) bytes.now start S.fixed b)) }
 {
     if S::fixed() {
         return repeated(K::read(bytes, start));
@@ -120,7 +122,8 @@ pub(crate) fn patterns<K: ElementKind, S: Spread>(bytes: &[u8], start: usize) ->
 
 // All bits below `low` flipped where that one is set.
 fn flipped(patterns: u32x8, low: u32) -> u32x8
-    requires { (0 < low) × (low < 32) }
+    requires some { 0 < low }
+    requires fits { low < 32 }
     ensures { (f : ℕ → ℕ) → patterns ≡ eight_of f → result ≡ eight_of (λ b. bit_xor (f b) ((0 + (2 ^ 32 - f b / 2 ^ low)) % 2 ^ 32 / 2 ^ (32 - low))) }
 {
     let set = patterns >> u32x8::splat(low);
@@ -137,9 +140,10 @@ fn turned(patterns: u32x8, low: u32) -> u32x8
 
 // Unsigned numbers in the order of the keys: the keys themselves, or the keys and the sign bit.
 pub(crate) fn ranks<K: ElementKind, S: Spread>(bytes: &[u8], start: usize) -> u32x8
-    requires { (width_of K.ElementKind.kind < 8) × (LieIn (width_of K.ElementKind.kind) bytes.now start S.Spread.fixed) }
+    requires narrow { width_of K.kind < 8 }
+    requires within { LieIn (width_of K.kind) bytes.now start S.fixed }
     ensures long { length result ≡ 8 }
-    ensures ranked { (b : ℕ) → b < 8 → pos (slice_index result b) ≡ element_key K.ElementKind.kind bytes.now start S.Spread.fixed b +ℤ pos (offset K.ElementKind.kind) }
+    ensures ranked { (b : ℕ) → b < 8 → pos (slice_index result b) ≡ element_key K.kind bytes.now start S.fixed b +ℤ pos (offset K.kind) }
 {
     let patterns = patterns::<K, S>(bytes, start);
     let low = 8 * K::element_width() as u32 - 1;

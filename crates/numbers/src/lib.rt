@@ -1,4 +1,6 @@
 // Number columns, and the comparator of two of them.
+#![tactic(auto)]
+
 pub mod column;
 mod eight;
 mod lanes;

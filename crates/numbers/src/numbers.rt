@@ -20,17 +20,17 @@ pub struct Numbers<'a, L, R> {
 
 impl<'a, L: ElementKind, R: ElementKind> Numbers<'a, L, R> {
     pub fn new(left: NumberColumn<'a, L>, right: NumberColumn<'a, R>) -> Numbers<'a, L, R>
-        ensures left_list { column_rows L.ElementKind.kind result.left.bytes.now result.left.start result.left.validity result.left.len ≡ column_rows L.ElementKind.kind left.entry.bytes.now left.entry.start left.entry.validity left.entry.len }
-        ensures right_list { column_rows R.ElementKind.kind result.right.bytes.now result.right.start result.right.validity result.right.len ≡ column_rows R.ElementKind.kind right.entry.bytes.now right.entry.start right.entry.validity right.entry.len }
+        ensures left_list { column_rows L.kind result.left.bytes.now result.left.start result.left.validity result.left.len ≡ column_rows L.kind left.entry.bytes.now left.entry.start left.entry.validity left.entry.len }
+        ensures right_list { column_rows R.kind result.right.bytes.now result.right.start result.right.validity result.right.len ≡ column_rows R.kind right.entry.bytes.now right.entry.start right.entry.validity right.entry.len }
     {
         Numbers { left, right }
     }
 }
 
 impl<'a, L: ElementKind, R: ElementKind> RowComparator for Numbers<'a, L, R> {
-    ghost left = { λ s. column_rows L.ElementKind.kind s.left.bytes.now s.left.start s.left.validity s.left.len };
+    ghost left = { λ s. column_rows L.kind s.left.bytes.now s.left.start s.left.validity s.left.len };
 
-    ghost right = { λ s. column_rows R.ElementKind.kind s.right.bytes.now s.right.start s.right.validity s.right.len };
+    ghost right = { λ s. column_rows R.kind s.right.bytes.now s.right.start s.right.validity s.right.len };
 
     fn left_len(&self) -> usize {
         self.left.rows()

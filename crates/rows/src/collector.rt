@@ -13,7 +13,7 @@ use std::marker::PhantomData;
 
 // Whether left row i and right row i are equal.
 fn equal_rows<C: RowComparator>(comparator: &C, i: usize) -> bool
-    ensures* { λ r. ⌜ r ≡ is_eq (order (row (C.RowComparator.left comparator.now) i) (row (C.RowComparator.right comparator.now) i)) ⌝ }
+    ensures { result ≡ is_eq (order (row (C.left comparator.now) i) (row (C.right comparator.now) i)) }
 {
     match comparator.same(i) {
         Some(same) => same,
@@ -23,7 +23,7 @@ fn equal_rows<C: RowComparator>(comparator: &C, i: usize) -> bool
 
 // Whether the operator holds of left row i and right row i.
 fn row_result<C: RowComparator, O: FixedOperator>(comparator: &C, i: usize) -> bool
-    ensures* { λ r. ⌜ r ≡ result_at (C.RowComparator.left comparator.now) (C.RowComparator.right comparator.now) O.FixedOperator.means i ⌝ }
+    ensures { result ≡ result_at (C.left comparator.now) (C.right comparator.now) O.means i }
 {
     match O::operator() {
         CompareOperator::Eq => equal_rows(comparator, i),
@@ -41,7 +41,7 @@ struct RowResults<'c, C, O> {
 }
 
 impl<'c, C: RowComparator, O: FixedOperator> Results for RowResults<'c, C, O> {
-    ghost told = { λ s k. results_from (result_at (C.RowComparator.left s.comparator.now) (C.RowComparator.right s.comparator.now) O.FixedOperator.means) s.start k };
+    ghost told = { λ s k. results_from (result_at (C.left s.comparator.now) (C.right s.comparator.now) O.means) s.start k };
 
     fn result(&self, place: usize) -> bool {
         match self.start.checked_add(place) {
@@ -53,8 +53,9 @@ impl<'c, C: RowComparator, O: FixedOperator> Results for RowResults<'c, C, O> {
 
 // The results of up to eight rows in a byte, row by row.
 fn pack_rows<C: RowComparator, O: FixedOperator>(comparator: &C, start: usize, count: usize) -> u8
-    requires { (count ≤ 8) × (start + count < 2 ^ 64) }
-    ensures* { λ r. ⌜ r ≡ bits (result_at (C.RowComparator.left comparator.now) (C.RowComparator.right comparator.now) O.FixedOperator.means) start count ⌝ }
+    requires eight { count ≤ 8 }
+    requires in_range { start + count < 2 ^ 64 }
+    ensures { result ≡ bits (result_at (C.left comparator.now) (C.right comparator.now) O.means) start count }
 {
     let operator: PhantomData<O> = PhantomData;
     let results = RowResults {
@@ -67,8 +68,10 @@ fn pack_rows<C: RowComparator, O: FixedOperator>(comparator: &C, start: usize, c
 
 // Byte k of the results, where all of its eight rows are there.
 fn whole_byte<C: RowComparator, O: FixedOperator>(comparator: &C, k: usize) -> u8
-    requires { (8 * k + 8 ≤ length (C.RowComparator.left comparator.now)) × ((8 * k + 8 ≤ length (C.RowComparator.right comparator.now)) × (8 * k + 8 < 2 ^ 64)) }
-    ensures* { λ r. ⌜ r ≡ bits (result_at (C.RowComparator.left comparator.now) (C.RowComparator.right comparator.now) O.FixedOperator.means) (8 * k) 8 ⌝ }
+    requires left_has { 8 * k + 8 ≤ length (C.left comparator.now) }
+    requires right_has { 8 * k + 8 ≤ length (C.right comparator.now) }
+    requires in_range { 8 * k + 8 < 2 ^ 64 }
+    ensures { result ≡ bits (result_at (C.left comparator.now) (C.right comparator.now) O.means) (8 * k) 8 }
 {
     match comparator.whole::<O>(k) {
         Some(byte) => byte,
@@ -78,8 +81,10 @@ fn whole_byte<C: RowComparator, O: FixedOperator>(comparator: &C, k: usize) -> u
 
 // Writes the results of the first `len` rows.
 fn write_bits<C: RowComparator, O: FixedOperator>(comparator: &C, len: usize, out: &mut [u8])
-    requires { (len ≤ length (C.RowComparator.left comparator.now)) × ((len ≤ length (C.RowComparator.right comparator.now)) × (bytes_for len ≤ length out.old)) }
-    ensures* { λ _. ⌜ out.new ≡ collected (C.RowComparator.left comparator.now) (C.RowComparator.right comparator.now) O.FixedOperator.means len ++ drop (bytes_for len) out.old ⌝ }
+    requires left_has { len ≤ length (C.left comparator.now) }
+    requires right_has { len ≤ length (C.right comparator.now) }
+    requires room { bytes_for len ≤ length out.old }
+    ensures { out.new ≡ collected (C.left comparator.now) (C.right comparator.now) O.means len ++ drop (bytes_for len) out.old }
 {
     let full = len / 8;
     for k in 0..full {
@@ -96,7 +101,7 @@ pub fn check_collection<C: RowComparator>(
     len: usize,
     room: usize,
 ) -> Result<usize, CollectFault>
-    ensures* { λ r. ⌜ r ≡ collection (C.RowComparator.left comparator.now) (C.RowComparator.right comparator.now) len room ⌝ }
+    ensures { result ≡ collection (C.left comparator.now) (C.right comparator.now) len room }
 {
     if len > comparator.left_len() || len > comparator.right_len() {
         return Err(CollectFault::Length);
@@ -116,8 +121,8 @@ pub fn collect_ordering_bits<C: RowComparator>(
     len: usize,
     out: &mut [u8],
 ) -> Result<usize, CollectFault>
-    ensures* answers { λ r. ⌜ r ≡ collection (C.RowComparator.left comparator.now) (C.RowComparator.right comparator.now) len (length out.old) ⌝ }
-    ensures* writes { λ r. ⌜ out.new ≡ written r (collected (C.RowComparator.left comparator.now) (C.RowComparator.right comparator.now) op len) out.old ⌝ }
+    ensures answers { result ≡ collection (C.left comparator.now) (C.right comparator.now) len (length out.old) }
+    ensures writes { out.new ≡ written result (collected (C.left comparator.now) (C.right comparator.now) op len) out.old }
 {
     let size = check_collection(comparator, len, out.len())?;
     match op {

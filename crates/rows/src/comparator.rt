@@ -16,34 +16,37 @@ pub trait RowComparator {
     ghost right: { Self → List Row };
 
     fn left_len(&self) -> usize
-        ensures* { λ r. ⌜ r ≡ length (left self.now) ⌝ };
+        ensures { result ≡ length (left self.now) };
 
     fn right_len(&self) -> usize
-        ensures* { λ r. ⌜ r ≡ length (right self.now) ⌝ };
+        ensures { result ≡ length (right self.now) };
 
     // The order of left row i and right row j. A row past the end is null.
     fn compare(&self, i: usize, j: usize) -> Ordering
-        ensures* { λ r. ⌜ r ≡ order (row (left self.now) i) (row (right self.now) j) ⌝ };
+        ensures { result ≡ order (row (left self.now) i) (row (right self.now) j) };
 
     // Whether left row i and right row i are equal, from a comparator that has a faster way than by their order.
     fn same(&self, i: usize) -> Option<bool>
-        ensures* { λ r. ⌜ IfSome r (λ b. b ≡ is_eq (order (row (left self.now) i) (row (right self.now) i))) ⌝ }
+        ensures { IfSome result (λ b. b ≡ is_eq (order (row (left self.now) i) (row (right self.now) i))) }
     {
         None
     }
 
     // The results of rows 8k to 8k + 7 in a byte, from a comparator that has a faster way than row by row.
     fn whole<O: FixedOperator>(&self, k: usize) -> Option<u8>
-        requires { (8 * k + 8 ≤ length (left self.now)) × ((8 * k + 8 ≤ length (right self.now)) × (8 * k + 8 < 2 ^ 64)) }
-        ensures* { λ r. ⌜ IfSome r (λ b. b ≡ bits (result_at (left self.now) (right self.now) O.FixedOperator.means) (8 * k) 8) ⌝ }
+        requires left_has { 8 * k + 8 ≤ length (left self.now) }
+        requires right_has { 8 * k + 8 ≤ length (right self.now) }
+        requires in_range { 8 * k + 8 < 2 ^ 64 }
+        ensures { IfSome result (λ b. b ≡ bits (result_at (left self.now) (right self.now) O.means) (8 * k) 8) }
     {
         None
     }
 
     // The same of left rows 8k to 8k + 7, each against right row j.
     fn against<O: FixedOperator>(&self, k: usize, j: usize) -> Option<u8>
-        requires { (8 * k + 8 ≤ length (left self.now)) × (8 * k + 8 < 2 ^ 64) }
-        ensures* { λ r. ⌜ IfSome r (λ b. b ≡ bits (λ i. holds O.FixedOperator.means (order (row (left self.now) i) (row (right self.now) j))) (8 * k) 8) ⌝ }
+        requires left_has { 8 * k + 8 ≤ length (left self.now) }
+        requires in_range { 8 * k + 8 < 2 ^ 64 }
+        ensures { IfSome result (λ b. b ≡ bits (λ i. holds O.means (order (row (left self.now) i) (row (right self.now) j))) (8 * k) 8) }
     {
         None
     }

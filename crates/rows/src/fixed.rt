@@ -14,17 +14,17 @@ pub struct FixedRow<C> {
 
 impl<C: RowComparator> FixedRow<C> {
     pub fn new(below: C) -> FixedRow<C>
-        ensures left_list { C.RowComparator.left result.below ≡ C.RowComparator.left below }
-        ensures right_list { C.RowComparator.right result.below ≡ C.RowComparator.right below }
+        ensures left_list { C.left result.below ≡ C.left below }
+        ensures right_list { C.right result.below ≡ C.right below }
     {
         FixedRow { below }
     }
 }
 
 impl<C: RowComparator> RowComparator for FixedRow<C> {
-    ghost left = { λ s. C.RowComparator.left s.below };
+    ghost left = { λ s. C.left s.below };
 
-    ghost right = { λ s. replicate (length (C.RowComparator.left s.below)) (row (C.RowComparator.right s.below) 0) };
+    ghost right = { λ s. replicate (length (C.left s.below)) (row (C.right s.below) 0) };
 
     fn left_len(&self) -> usize {
         self.below.left_len()

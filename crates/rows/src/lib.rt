@@ -1,4 +1,6 @@
 // Row comparators, and a collector of the results they give.
+#![tactic(auto)]
+
 ghost use Rattle.rows.specs.Laws.{RowOrder, Collections};
 
 pub mod collector;

@@ -1,4 +1,6 @@
 // Examples over the whole library, run as tests.
+#![tactic(auto)]
+
 #[cfg(test)]
 mod collections;
 #[cfg(test)]

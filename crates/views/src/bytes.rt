@@ -8,7 +8,8 @@ use std::cmp::Ordering;
 
 // The order of the eight bytes from `at` on: as numbers whose first byte is the highest.
 fn word_cmp(left: &[u8], right: &[u8], at: usize) -> Ordering
-    requires { (at + 8 ≤ length left.now) × (at + 8 ≤ length right.now) }
+    requires left_has { at + 8 ≤ length left.now }
+    requires right_has { at + 8 ≤ length right.now }
     ensures { result ≡ byte_order (take 8 (drop at left.now)) (take 8 (drop at right.now)) }
 {
     let left_word = U64::read(left, at).swap_bytes();
@@ -18,7 +19,8 @@ fn word_cmp(left: &[u8], right: &[u8], at: usize) -> Ordering
 
 // The same of sixteen bytes.
 fn two_words_cmp(left: &[u8], right: &[u8], at: usize) -> Ordering
-    requires { (at + 16 ≤ length left.now) × (at + 16 ≤ length right.now) }
+    requires left_has { at + 16 ≤ length left.now }
+    requires right_has { at + 16 ≤ length right.now }
     ensures { result ≡ byte_order (take 16 (drop at left.now)) (take 16 (drop at right.now)) }
 {
     word_cmp(left, right, at).then(word_cmp(left, right, at + 8))
@@ -26,7 +28,9 @@ fn two_words_cmp(left: &[u8], right: &[u8], at: usize) -> Ordering
 
 // The order of the first n bytes, where these are less than sixteen.
 fn short_front_cmp<'a>(left: &'a [u8], right: &'a [u8], n: usize) -> Ordering
-    requires { (n ≤ length left.now) × ((n ≤ length right.now) × (n < 16)) }
+    requires left_has { n ≤ length left.now }
+    requires right_has { n ≤ length right.now }
+    requires short { n < 16 }
     ensures { result ≡ byte_order (take n left.now) (take n right.now) }
 {
     if n < 8 {
@@ -38,7 +42,8 @@ fn short_front_cmp<'a>(left: &'a [u8], right: &'a [u8], n: usize) -> Ordering
 
 // The order of the first n bytes. The last sixteen of them may overlap the ones before.
 fn front_cmp<'a>(left: &'a [u8], right: &'a [u8], n: usize) -> Ordering
-    requires { (n ≤ length left.now) × (n ≤ length right.now) }
+    requires left_has { n ≤ length left.now }
+    requires right_has { n ≤ length right.now }
     ensures { result ≡ byte_order (take n left.now) (take n right.now) }
 {
     if n < 16 {

@@ -79,7 +79,8 @@ impl View {
 
     // Whether a long value begins with the four bytes that the view repeats.
     fn begins_in(self, buffer: &[u8]) -> bool
-        requires { (nat_le (size_of (view_bytes self)) 12 ≡ false) × (nat_lt (length buffer.now) (offset_of (view_bytes self) + size_of (view_bytes self)) ≡ false) }
+        requires long { nat_le (size_of (view_bytes self)) 12 ≡ false }
+        requires within { nat_lt (length buffer.now) (offset_of (view_bytes self) + size_of (view_bytes self)) ≡ false }
         ensures { result ≡ bytes_eq (prefix_of (view_bytes self)) (take 4 (take (size_of (view_bytes self)) (drop (offset_of (view_bytes self)) buffer.now))) }
     {
         let inlined = self.inlined_bytes();

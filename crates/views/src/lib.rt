@@ -1,4 +1,6 @@
 // Byte views: sixteen bytes that hold a short text or binary value, or say where a long one stands.
+#![tactic(auto)]
+
 ghost use Rattle.views.specs.Window.{TextOrder, Windows};
 
 pub mod against;
