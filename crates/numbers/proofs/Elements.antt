@@ -1,10 +1,10 @@
 -- Eight elements in the data. Assumes nothing.
 use Rattle.std.proofs.Common.{◌≡◌, ℕ, ◌+◌, ◌*◌, ◌^◌, ◌<◌, ◌≤◌, Bool, true, false, eqb, List, sym, ap, ◌∙◌, mod-eq_of_lt, mul-add, arith}
 use Rattle.std.proofs.lemmas.Nat.{mod_below, pow_pos}
-use Rattle.std.specs.Cmp.{rankZ, signed_Decides}
+use Rattle.std.specs.Cmp.{signed_Decides}
+use Rattle.std.specs.Ordering.{int_cmp, is_eq}
 use Rattle.std.specs.Bool.{one_answer}
 use Rattle.std.proofs.lemmas.Bool.{eq-eqb, eqb-true}
-use Rattle.std.specs.Ordering.{is_eq}
 use Rattle.rows.specs.Bits.{bits}
 use Rattle.rows.proofs.BitLaws.{bits_same}
 use Rattle.elements.specs.declared.ptype.PType.{PType}
@@ -51,19 +51,19 @@ low_key : (p : PType) (m : ℕ) → key_of p (low_bytes (width_of p) m) ≡ key_
 unfolding key_of
 low_key p m = ap (key_by (class_of p) (width_of p)) (mod-eq_of_lt (mod_below m (2 ^ (8 * width_of p)) (pow_pos (8 * width_of p))))
 
-pub one_key : (p : PType) (m n : ℕ) → is_eq (rankZ (key_of p m) (key_of p n)) ≡ eqb (low_bytes (width_of p) m) (low_bytes (width_of p) n)
+pub one_key : (p : PType) (m n : ℕ) → is_eq (int_cmp (key_of p m) (key_of p n)) ≡ eqb (low_bytes (width_of p) m) (low_bytes (width_of p) n)
 one_key p m n =
     let a = low_bytes (width_of p) m in
     let b = low_bytes (width_of p) n in
     let below : (x : ℕ) → low_bytes (width_of p) x < 2 ^ (8 * width_of p) = λ x. mod_below x (2 ^ (8 * width_of p)) (pow_pos (8 * width_of p)) in
-    one_answer (is_eq (rankZ (key_of p m) (key_of p n))) (eqb a b) (signed_Decides (key_of p m) (key_of p n)) (
+    one_answer (is_eq (int_cmp (key_of p m) (key_of p n))) (eqb a b) (signed_Decides (key_of p m) (key_of p n)) (
       λ e. sym (low_key p m) ∙ ap (key_of p) (eqb-true a b e) ∙ low_key p n,
-      λ e. eq-eqb a b ((key_law p).same a b (below m) (below n) (ap (rankZ (key_of p a)) (low_key p n ∙ sym e ∙ sym (low_key p m)) ∙ (key_law p).itself a)),
+      λ e. eq-eqb a b ((key_law p).same a b (below m) (below n) (ap (int_cmp (key_of p a)) (low_key p n ∙ sym e ∙ sym (low_key p m)) ∙ (key_law p).itself a)),
     )
 
 -- so it is the same at each kind of one width
 module _ (p q : PType) (e : width_of p ≡ width_of q) (ls rs : List ℕ) (ln rn : ℕ) (lf rf : Bool) (b : ℕ) where
-  pub as_kind : is_eq (rankZ (element_key p ls ln lf b) (element_key p rs rn rf b)) ≡ is_eq (rankZ (element_key q ls ln lf b) (element_key q rs rn rf b))
+  pub as_kind : is_eq (int_cmp (element_key p ls ln lf b) (element_key p rs rn rf b)) ≡ is_eq (int_cmp (element_key q ls ln lf b) (element_key q rs rn rf b))
   as_kind =
       one_key p (element (width_of p) ls ln lf b) (element (width_of p) rs rn rf b)
       ∙ ap (λ w. eqb (low_bytes w (element w ls ln lf b)) (low_bytes w (element w rs rn rf b))) e

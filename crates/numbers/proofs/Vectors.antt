@@ -10,8 +10,7 @@ use Rattle.std.proofs.lemmas.List.{take-take, drop-drop, drop_more, drop-take}
 use Rattle.std.proofs.lemmas.Int.{ints}
 use Rattle.std.proofs.lemmas.Bool.{cases_lt, cond-true, cond-false, lt-ltb, le-ltb, ltb-false}
 use Rattle.std.proofs.lemmas.Bool.Decides.{nat_tests}
-use Rattle.std.specs.Cmp.{rankZ}
-use Rattle.std.specs.Ordering.{is_lt}
+use Rattle.std.specs.Ordering.{int_cmp, is_lt}
 use Rattle.rows.specs.Bits.{bits, digit}
 use Rattle.rows.proofs.BitLaws.{bits_same}
 use Rattle.elements.specs.declared.ptype.Class.TheVariants.{Unsigned, Signed, Float}
@@ -109,7 +108,7 @@ module _ (l : List ℕ) (typed : (i : ℕ) → Fits w8 (get_or l i 0)) where
 -- ---- numbers in the order of the keys
 
 -- the order of numbers is that of the keys that they are away from by one offset
-pub shifted_lt : (x y o : ℕ) (u v : ℤ) → pos x ≡ u +ℤ pos o → pos y ≡ v +ℤ pos o → ltb x y ≡ is_lt (rankZ u v)
+pub shifted_lt : (x y o : ℕ) (u v : ℤ) → pos x ≡ u +ℤ pos o → pos y ≡ v +ℤ pos o → ltb x y ≡ is_lt (int_cmp u v)
 shifted_lt x y o u v h k = grind (arith, ints, nat_tests)
 
 -- the sign bit turned

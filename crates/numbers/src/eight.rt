@@ -1,7 +1,6 @@
 // The results of eight rows at once, from their keys and from bytes that tell which are valid.
 ghost use Rattle.std.specs.Prelude.{◌≡◌, ℕ, ◌-◌, false, ℤ, if◌then◌else◌, bit_and, bit_or, bit_xor, nat_lt};
-ghost use Rattle.std.specs.Ordering.{is_eq, is_lt};
-ghost use Rattle.std.specs.Cmp.{rankZ};
+ghost use Rattle.std.specs.Ordering.{int_cmp, is_eq, is_lt};
 ghost use Rattle.rows.specs.Bits.{bits};
 ghost use Rattle.rows.specs.Row.{order};
 ghost use Rattle.rows.specs.Operators.{holds};
@@ -21,17 +20,17 @@ pub(crate) trait EightPairs {
     // The pairs whose left key is below.
     fn below(&self) -> u8
         requires { within self.now }
-        ensures { result ≡ bits (λ b. is_lt (rankZ (left self.now b) (right self.now b))) 0 8 };
+        ensures { result ≡ bits (λ b. is_lt (int_cmp (left self.now b) (right self.now b))) 0 8 };
 
     // The pairs whose right key is below.
     fn above(&self) -> u8
         requires { within self.now }
-        ensures { result ≡ bits (λ b. is_lt (rankZ (right self.now b) (left self.now b))) 0 8 };
+        ensures { result ≡ bits (λ b. is_lt (int_cmp (right self.now b) (left self.now b))) 0 8 };
 
     // The pairs whose keys are one.
     fn alike(&self) -> u8
         requires { within self.now }
-        ensures { result ≡ bits (λ b. is_eq (rankZ (left self.now b) (right self.now b))) 0 8 };
+        ensures { result ≡ bits (λ b. is_eq (int_cmp (left self.now b) (right self.now b))) 0 8 };
 }
 
 // Pairs of keys that were read.
@@ -49,7 +48,7 @@ struct Below {
 }
 
 impl Results for Below {
-    ghost told = { λ s b. (if nat_lt b 8 then is_lt (rankZ (nth s.left b) (nth s.right b)) else false) };
+    ghost told = { λ s b. (if nat_lt b 8 then is_lt (int_cmp (nth s.left b) (nth s.right b)) else false) };
 
     fn result(&self, place: usize) -> bool {
         place < 8 && self.left[place] < self.right[place]
@@ -64,7 +63,7 @@ struct Alike {
 }
 
 impl Results for Alike {
-    ghost told = { λ s b. (if nat_lt b 8 then is_eq (rankZ (nth s.left b) (nth s.right b)) else false) };
+    ghost told = { λ s b. (if nat_lt b 8 then is_eq (int_cmp (nth s.left b) (nth s.right b)) else false) };
 
     fn result(&self, place: usize) -> bool {
         place < 8 && self.left[place] == self.right[place]

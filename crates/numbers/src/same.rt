@@ -1,7 +1,6 @@
 // Eight elements against eight others of the same kind.
 ghost use Rattle.std.specs.Prelude.{◌≡◌, false};
-ghost use Rattle.std.specs.Ordering.{is_eq, is_lt};
-ghost use Rattle.std.specs.Cmp.{rankZ};
+ghost use Rattle.std.specs.Ordering.{int_cmp, is_eq, is_lt};
 ghost use Rattle.elements.specs.Kinds.{width_of};
 ghost use Rattle.rows.specs.Bits.{bits};
 ghost use Rattle.rows.specs.Operators.{holds};
@@ -23,7 +22,7 @@ fn lower<O: FixedOperator, K: ElementKind, S: Spread, T: Spread>(
 ) -> u8
     requires left_within { LieIn (width_of K.kind) left.now.bytes.now left.now.start S.fixed }
     requires right_within { LieIn (width_of K.kind) right.now.bytes.now right.now.start T.Spread.fixed }
-    ensures { result ≡ bits (λ b. is_lt (rankZ (element_key K.kind left.now.bytes.now left.now.start S.fixed b) (element_key K.kind right.now.bytes.now right.now.start T.Spread.fixed b))) 0 8 }
+    ensures { result ≡ bits (λ b. is_lt (int_cmp (element_key K.kind left.now.bytes.now left.now.start S.fixed b) (element_key K.kind right.now.bytes.now right.now.start T.Spread.fixed b))) 0 8 }
 {
     if K::element_width() < 8 {
         let left = ranks::<K, S>(left.bytes, left.start);
@@ -39,7 +38,7 @@ fn lower<O: FixedOperator, K: ElementKind, S: Spread, T: Spread>(
 fn one_pattern<K: ElementKind, S: Spread, T: Spread>(left: &Eight<S>, right: &Eight<T>) -> u8
     requires left_within { LieIn (width_of K.kind) left.now.bytes.now left.now.start S.fixed }
     requires right_within { LieIn (width_of K.kind) right.now.bytes.now right.now.start T.Spread.fixed }
-    ensures { result ≡ bits (λ b. is_eq (rankZ (element_key K.kind left.now.bytes.now left.now.start S.fixed b) (element_key K.kind right.now.bytes.now right.now.start T.Spread.fixed b))) 0 8 }
+    ensures { result ≡ bits (λ b. is_eq (int_cmp (element_key K.kind left.now.bytes.now left.now.start S.fixed b) (element_key K.kind right.now.bytes.now right.now.start T.Spread.fixed b))) 0 8 }
 {
     if K::element_width() < 8 {
         let left = patterns::<K, S>(left.bytes, left.start);

@@ -1,7 +1,7 @@
 -- The order of row values is a total order. Assumes nothing.
-use Rattle.std.proofs.Common.{◌≡◌, ℕ, ◌<◌, ◌≤◌, Bool, true, false, cond, ltb, ◌⊎◌, List, [], ◌∷◌, ◌++◌, ℤ, pos, ◌<ℤ◌, Ordering, Less, Equal, Greater, sym, refl, ap, ◌∙◌, subst, inl, inr, true≢false, arith, ltb-false, ltb-true}
-use Rattle.std.specs.Ordering.{is_lt, is_eq, is_gt, ordering_reverse, ordering_then, MatchOrdering}
-use Rattle.std.specs.Cmp.{rankZ, int_ranks, int_cmp_total, nat_cmp_total}
+use Rattle.std.proofs.Common.{◌≡◌, ℕ, ◌<◌, ◌≤◌, Bool, true, false, cond, ltb, ◌⊎◌, List, [], ◌∷◌, ◌++◌, ℤ, pos, ◌<ℤ◌, Ordering, Less, Equal, Greater, sym, refl, ap, ◌∙◌, subst, inl, inr, true≢false, arith, nat_cmp, ltb-false, ltb-true}
+use Rattle.std.specs.Ordering.{MatchOrdering, int_cmp, is_eq, is_gt, is_lt, ordering_reverse, ordering_then}
+use Rattle.std.specs.Cmp.{int_ranks, int_cmp_total, nat_cmp_is}
 use Rattle.std.specs.Cmp.Lexicographic.{slice_cmp}
 use Rattle.rows.specs.Row.{Row, Rows, null, number, rows, none, more, packed, items, list, text, order, orders}
 use Rattle.rows.specs.Laws.{Lawful, SmallerAtDifference, ProperBeginning, RowOrder}
@@ -45,17 +45,17 @@ module _ {K : Type 0} (cmp : K → K → Ordering) (flip : (a b : K) → cmp b a
 
 -- ---- numbers
 
-rankZ_same : (a b : ℤ) → rankZ a b ≡ Equal → a ≡ b
-rankZ_same a b e = subst (λ o. MatchOrdering o (a <ℤ b) (a ≡ b) (b <ℤ a)) e (int_ranks a b)
+int_cmp_same : (a b : ℤ) → int_cmp a b ≡ Equal → a ≡ b
+int_cmp_same a b e = subst (λ o. MatchOrdering o (a <ℤ b) (a ≡ b) (b <ℤ a)) e (int_ranks a b)
 
-rankZ_flip : (a b : ℤ) → rankZ b a ≡ ordering_reverse (rankZ a b)
-rankZ_flip a b = int_cmp_total.antisymm b a
+int_cmp_flip : (a b : ℤ) → int_cmp b a ≡ ordering_reverse (int_cmp a b)
+int_cmp_flip a b = int_cmp_total.antisymm b a
 
-rankZ_chain : (a b c : ℤ) → rankZ a b ≡ Less → rankZ b c ≡ Less → rankZ a c ≡ Less
-rankZ_chain a b c = int_cmp_total.trans a b c
+int_cmp_chain : (a b c : ℤ) → int_cmp a b ≡ Less → int_cmp b c ≡ Less → int_cmp a c ≡ Less
+int_cmp_chain a b c = int_cmp_total.trans a b c
 
-pub numbers : Lawful rankZ
-numbers = lawful_from rankZ rankZ_flip rankZ_chain rankZ_same
+pub numbers : Lawful int_cmp
+numbers = lawful_from int_cmp int_cmp_flip int_cmp_chain int_cmp_same
 
 -- ---- row values
 
@@ -75,7 +75,7 @@ mutual
   row_flip null (number n) = refl
   row_flip null (rows ys) = refl
   row_flip (number m) null = refl
-  row_flip (number m) (number n) = rankZ_flip m n
+  row_flip (number m) (number n) = int_cmp_flip m n
   row_flip (number m) (rows ys) = refl
   row_flip (rows xs) null = refl
   row_flip (rows xs) (number n) = refl
@@ -93,7 +93,7 @@ mutual
   row_same null (number n) e = no_lt_eq e
   row_same null (rows ys) e = no_lt_eq e
   row_same (number m) null e = no_gt_eq e
-  row_same (number m) (number n) e = ap number (rankZ_same m n e)
+  row_same (number m) (number n) e = ap number (int_cmp_same m n e)
   row_same (number m) (rows ys) e = no_lt_eq e
   row_same (rows xs) null e = no_gt_eq e
   row_same (rows xs) (number n) e = no_gt_eq e
@@ -134,7 +134,7 @@ mutual
   row_chain null b (rows zs) h k = refl
   row_chain (number m) null c h k = no_gt_lt h
   row_chain (number m) (number n) null h k = no_gt_lt k
-  row_chain (number m) (number n) (number l) h k = rankZ_chain m n l h k
+  row_chain (number m) (number n) (number l) h k = int_cmp_chain m n l h k
   row_chain (number m) (number n) (rows zs) h k = refl
   row_chain (number m) (rows ys) null h k = no_gt_lt k
   row_chain (number m) (rows ys) (number l) h k = no_gt_lt k
@@ -218,11 +218,11 @@ ranked a b true q e f = ltb-true a b e
 ranked a b false true e f = ltb-true b a f
 ranked a b false false e f = let h : b ≤ a = ltb-false a b e in let k : a ≤ b = ltb-false b a f in omega arith
 
-texts : (xs ys : List ℕ) → order (text xs) (text ys) ≡ slice_cmp nat_cmp_total xs ys
+texts : (xs ys : List ℕ) → order (text xs) (text ys) ≡ slice_cmp nat_cmp xs ys
 texts [] [] = refl
 texts [] (y ∷ ys) = refl
 texts (x ∷ xs) [] = refl
-texts (x ∷ xs) (y ∷ ys) = λ i. ordering_then (nat_cmp_total.says x y (rankZ (pos x) (pos y)) (ranked x y (ltb x y) (ltb y x) refl refl) i) (texts xs ys i)
+texts (x ∷ xs) (y ∷ ys) = λ i. ordering_then (nat_cmp_is x y (int_cmp (pos x) (pos y)) (ranked x y (ltb x y) (ltb y x) refl refl) i) (texts xs ys i)
 
 pub stands : RowOrder
 stands = record {

@@ -3,7 +3,7 @@ use Rattle.std.specs.Prelude.{◌≡◌, ℕ, ◌<◌, Bool, true, false, ◌⊎
 use Rattle.std.specs.declared.cmp.Ordering.TheVariants.{Less, Equal, Greater}
 use Rattle.std.specs.declared.cmp.Ordering.{Ordering}
 use Rattle.std.specs.Ordering.{ordering_reverse}
-use Rattle.std.specs.Cmp.{nat_cmp_total}
+use Rattle.std.specs.Ordering.{nat_cmp}
 use Rattle.std.specs.Cmp.Lexicographic.{slice_cmp}
 use Rattle.rows.specs.Row.{Row, Rows, null, number, packed, items, list, text, order}
 use Rattle.rows.specs.Bits.{bit_of, bytes_for}
@@ -49,7 +49,7 @@ pub record RowOrder : Type 0 where
   pub by_beginning : (xs ys : List Row) → ProperBeginning xs ys → order (list xs) (list ys) ≡ Less
   pub only_so : (xs ys : List Row) → order (list xs) (list ys) ≡ Less → SmallerAtDifference xs ys ⊎ ProperBeginning xs ys
   -- texts go as Rust orders slices of bytes
-  pub texts : (xs ys : List ℕ) → order (text xs) (text ys) ≡ slice_cmp nat_cmp_total xs ys
+  pub texts : (xs ys : List ℕ) → order (text xs) (text ys) ≡ slice_cmp nat_cmp xs ys
 
 -- the lists exchanged under the swapped operator give the same bytes
 abbrev pub Exchange : Type 0

@@ -2,8 +2,7 @@
 use Rattle.std.specs.Prelude.{ℕ, Bool, true, false, List, [], ◌∷◌, map, ℤ, pos, slice_index_or}
 use Rattle.std.specs.declared.cmp.Ordering.TheVariants.{Less, Equal, Greater}
 use Rattle.std.specs.declared.cmp.Ordering.{Ordering}
-use Rattle.std.specs.Ordering.{ordering_then}
-use Rattle.std.specs.Cmp.{rankZ}
+use Rattle.std.specs.Ordering.{int_cmp, ordering_then}
 
 -- A row value is null, a whole number, or a list of row values.
 -- `Rows` is such a list, since antt has no recursion through `List`: `packed` and `items` go from one to the other and back.
@@ -35,7 +34,7 @@ abbrev mutual
   order null (number n) = Less
   order null (rows ys) = Less
   order (number m) null = Greater
-  order (number m) (number n) = rankZ m n
+  order (number m) (number n) = int_cmp m n
   order (number m) (rows ys) = Less
   order (rows xs) null = Greater
   order (rows xs) (number n) = Greater

@@ -1,6 +1,5 @@
 use Rattle.std.proofs.Common.{ltb, ap₂}
-use Rattle.std.specs.Cmp.{rankZ}
-use Rattle.std.specs.Ordering.{is_lt}
+use Rattle.std.specs.Ordering.{int_cmp, is_lt}
 use Rattle.numbers.specs.Eights.{offset}
 use Rattle.numbers.proofs.Elements.{bits_eight}
 use Rattle.numbers.proofs.Vectors.{mask_bits, shifted_lt}
@@ -12,4 +11,4 @@ returns-then-element-width-lt8 g c =
     (λ b h. shifted_lt _ _ (offset g.K.ElementKind.kind) _ _ (c.ranks-left.ensures.ranked b h) (c.ranks-right.ensures.ranked b h))
 
 pub returns : goal.returns
-returns g c = bits_eight _ _ _ c.below.ensures (λ b h. ap₂ (λ x y. is_lt (rankZ x y)) (c.eight-keys-left.ensures b h) (c.eight-keys-right.ensures b h))
+returns g c = bits_eight _ _ _ c.below.ensures (λ b h. ap₂ (λ x y. is_lt (int_cmp x y)) (c.eight-keys-left.ensures b h) (c.eight-keys-right.ensures b h))

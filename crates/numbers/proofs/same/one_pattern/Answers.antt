@@ -1,6 +1,5 @@
 use Rattle.std.proofs.Common.{◌≡◌, ℕ, eqb, length, get_or, sym, ap, ◌∙◌, ap₂, rules}
-use Rattle.std.specs.Cmp.{rankZ}
-use Rattle.std.specs.Ordering.{is_eq}
+use Rattle.std.specs.Ordering.{int_cmp, is_eq}
 use Rattle.elements.specs.declared.ptype.PType.TheVariants.{U64}
 use Rattle.elements.specs.Kinds.{width_of}
 use Rattle.elements.specs.Keys.{low_bytes}
@@ -30,5 +29,5 @@ returns g c =
     let e : width_of p ≡ 8 = search rules in
     bits_eight _ _ _ c.alike.ensures
     (λ b h.
-    ap₂ (λ x y. is_eq (rankZ x y)) (c.eight-keys-left.ensures b h) (c.eight-keys-right.ensures b h)
+    ap₂ (λ x y. is_eq (int_cmp x y)) (c.eight-keys-left.ensures b h) (c.eight-keys-right.ensures b h)
     ∙ sym (as_kind p U64 e l.bytes.now r.bytes.now l.start r.start g.S.Spread.fixed g.T.Spread.fixed b))
