@@ -14,7 +14,7 @@ loop-k-preserved c =
     let k = c.loop-k.k in
     let byte = byte_at (present counts) (length counts) in
     let here : c.pack.result ≡ byte k = c.pack.ensures ∙ ap (λ xs. bits (present xs) 0 (min (length xs) 8)) (take_rest counts (8 * k)) ∙ rest_byte counts k in
-    c.in-ok-push.ensures.items ∙ ap₂ (λ bs b. bs ++ b ∷ []) c.loop-k.invariant here
+    c.in_ok-push.ensures.items ∙ ap₂ (λ bs b. bs ++ b ∷ []) c.loop-k.invariant here
     ∙ append_assoc before (map byte (range_with_len 0 k)) (byte k ∷ []) ∙ ap (λ bs. before ++ bs) (sym (map-range_with_len_more byte 0 k k (omega arith)))
 
 pub returns : goal.returns

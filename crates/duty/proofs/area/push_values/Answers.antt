@@ -11,10 +11,10 @@ loop-count-preserved c =
     let before = vec_items c.args.bytes.now in
     let i = c.loop-count.count_index in
     let count = get_or counts i None in
-    let eight : c.to-le-bytes.result ≡ count_bytes count = c.to-le-bytes.ensures ∙ eight_bytes c.unwrap-or-value.result ∙ ap (le_bytes 8) c.unwrap-or-value.ensures in (
-      c.in-ok-extend-from-slice.ensures.items ∙ ap₂ ◌++◌ c.loop-count.invariant.0 eight
+    let eight : c.to_le_bytes.result ≡ count_bytes count = c.to_le_bytes.ensures ∙ eight_bytes c.unwrap_or-value.result ∙ ap (le_bytes 8) c.unwrap_or-value.ensures in (
+      c.in_ok-extend_from_slice.ensures.items ∙ ap₂ ◌++◌ c.loop-count.invariant.0 eight
           ∙ flat_map_more count_bytes before (take i counts) count ∙ ap (λ xs. before ++ flat_map count_bytes xs) (sym (take_more counts i None (omega arith))),
-      below_more _ _ c.loop-count.invariant.1 (subst (λ n. n < 2 ^ 64) c.unwrap-or-value.ensures c.unwrap-or-value.type-inv),
+      below_more _ _ c.loop-count.invariant.1 (subst (λ n. n < 2 ^ 64) c.unwrap_or-value.ensures c.unwrap_or-value.type_inv),
     )
 
 pub returns : goal.returns

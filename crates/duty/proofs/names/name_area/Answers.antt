@@ -14,8 +14,8 @@ loop-name-preserved c =
     let i = c.loop-name.name-index in
     let views = vec_items c.loop-name.bytes in
     let buffer = vec_items c.loop-name.buffer in
-    let pushed = c.in-ok-push-name.ensures in
-    let same : c.as-slice.result.now ≡ vec_items name = c.as-slice.ensures.value in
+    let pushed = c.in_ok-push_name.ensures in
+    let same : c.as_slice.result.now ≡ vec_items name = c.as_slice.ensures.value in
     written_more names (drop i names) (drop (i + 1) names) name views buffer _ _ c.loop-name.invariant
     (drop_more names i name c.loop-name-test.true ∙ ap (λ x. x ∷ drop (i + 1) names) (sym c.name-item.is))
     (pushed.view ∙ ap (λ bs. views ++ view_of bs (length buffer)) same)
@@ -29,6 +29,6 @@ returns c =
     let buffer = vec_items c.loop-name.buffer in
     let all : Written names [] views buffer = subst (λ left. Written names left views buffer) (drop_all c.loop-name.name-index names c.loop-name-test.false) c.loop-name.invariant in (
       refl,
-      written_rows names views buffer _ _ all (c.in-ok-extend-from-slice.ensures.items ∙ ap (λ bs. views ++ bs) c.as-slice-2.ensures.value)
+      written_rows names views buffer _ _ all (c.in_ok-extend_from_slice.ensures.items ∙ ap (λ bs. views ++ bs) c.as_slice-2.ensures.value)
           (c.len.ensures ∙ c.loop-name.bytes.ok.0) (c.len-2.ensures ∙ c.loop-name.buffer.ok.0),
     )

@@ -13,6 +13,6 @@ returns c =
     let op = c.args.op in
     let n = names.len in
     let ys = replicate n (text c.args.name.now) in
-    let room : c.in-ok-out.out.len ≡ bytes_for n = c.in-ok-out.ensures.len ∙ omega arith in
-    filled (collected (area_texts names) ys op n) c.as-mut-slice.result.now c.collect-name.new.out _ (bytes_for n) _
-    (collected_length (area_texts names) ys op n) (c.as-mut-slice.ensures.len ∙ room) room c.in-ok-collect-name.ensures
+    let room : c.in_ok-out.out.len ≡ bytes_for n = c.in_ok-out.ensures.len ∙ omega arith in
+    filled (collected (area_texts names) ys op n) c.as_mut_slice.result.now c.collect_name.new.out _ (bytes_for n) _
+    (collected_length (area_texts names) ys op n) (c.as_mut_slice.ensures.len ∙ room) room c.in_ok-collect_name.ensures

@@ -14,7 +14,7 @@ returns c =
     let n = c.in-Some.pairs in
     let left : n ≡ names.len - d = search rules in
     let xs = area_texts names in
-    let room : c.in-ok-out.out.len ≡ bytes_for n = c.in-ok-out.ensures.len ∙ omega arith in
-    filled (collected xs (drop d xs) op n) c.as-mut-slice.result.now c.collect-apart.new.out _ (bytes_for n) _
-    (collected_length xs (drop d xs) op n) (c.as-mut-slice.ensures.len ∙ room) room c.in-ok-collect-apart.ensures
+    let room : c.in_ok-out.out.len ≡ bytes_for n = c.in_ok-out.ensures.len ∙ omega arith in
+    filled (collected xs (drop d xs) op n) c.as_mut_slice.result.now c.collect_apart.new.out _ (bytes_for n) _
+    (collected_length xs (drop d xs) op n) (c.as_mut_slice.ensures.len ∙ room) room c.in_ok-collect_apart.ensures
     ∙ ap (collected xs (drop d xs) op) left

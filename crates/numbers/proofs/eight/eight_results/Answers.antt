@@ -30,64 +30,64 @@ not_greater Greater = refl
 pub returns-in-Eq : goal.returns-in-Eq
 returns-in-Eq g c =
     let m = g.P.EightPairs in
-    let v = c.args.left-valid in
-    let w = c.args.right-valid in
+    let v = c.args.left_valid in
+    let w = c.args.right_valid in
     let l = m.left c.args.pairs.now in
     let r = m.right c.args.pairs.now in
     at_operator g.O.FixedOperator.means Eq (eighth v l) (eighth w r) _ (sym c.operator.ensures ∙ c.in-Eq.is)
-    (c.equal-rows.ensures ∙ equal v w c.ranges.left-valid.fits c.ranges.right-valid.fits l r c.alike.result c.alike.ensures)
+    (c.equal_rows.ensures ∙ equal v w c.ranges.left_valid.fits c.ranges.right_valid.fits l r c.alike.result c.alike.ensures)
 
 pub returns-in-NotEq : goal.returns-in-NotEq
 returns-in-NotEq g c =
     let m = g.P.EightPairs in
-    let v = c.args.left-valid in
-    let w = c.args.right-valid in
+    let v = c.args.left_valid in
+    let w = c.args.right_valid in
     let l = m.left c.args.pairs.now in
     let r = m.right c.args.pairs.now in
     at_operator g.O.FixedOperator.means NotEq (eighth v l) (eighth w r) _ (sym c.operator.ensures ∙ c.in-NotEq.is)
-    (others Eq NotEq (eighth v l) (eighth w r) c.equal-rows-in-NotEq.result not_eq
-    (c.equal-rows-in-NotEq.ensures ∙ equal v w c.ranges.left-valid.fits c.ranges.right-valid.fits l r c.alike-in-NotEq.result c.alike-in-NotEq.ensures))
+    (others Eq NotEq (eighth v l) (eighth w r) c.equal_rows-in-NotEq.result not_eq
+    (c.equal_rows-in-NotEq.ensures ∙ equal v w c.ranges.left_valid.fits c.ranges.right_valid.fits l r c.alike-in-NotEq.result c.alike-in-NotEq.ensures))
 
 pub returns-in-Lt : goal.returns-in-Lt
 returns-in-Lt g c =
     let m = g.P.EightPairs in
-    let v = c.args.left-valid in
-    let w = c.args.right-valid in
+    let v = c.args.left_valid in
+    let w = c.args.right_valid in
     let l = m.left c.args.pairs.now in
     let r = m.right c.args.pairs.now in
     at_operator g.O.FixedOperator.means Lt (eighth v l) (eighth w r) _ (sym c.operator.ensures ∙ c.in-Lt.is)
-    (c.lesser-rows.ensures ∙ lesser v w c.ranges.left-valid.fits c.ranges.right-valid.fits l r c.below.result c.below.ensures)
+    (c.lesser_rows.ensures ∙ lesser v w c.ranges.left_valid.fits c.ranges.right_valid.fits l r c.below.result c.below.ensures)
 
 pub returns-in-Gte : goal.returns-in-Gte
 returns-in-Gte g c =
     let m = g.P.EightPairs in
-    let v = c.args.left-valid in
-    let w = c.args.right-valid in
+    let v = c.args.left_valid in
+    let w = c.args.right_valid in
     let l = m.left c.args.pairs.now in
     let r = m.right c.args.pairs.now in
     at_operator g.O.FixedOperator.means Gte (eighth v l) (eighth w r) _ (sym c.operator.ensures ∙ c.in-Gte.is)
-    (others Lt Gte (eighth v l) (eighth w r) c.lesser-rows-in-Gte.result not_less
-    (c.lesser-rows-in-Gte.ensures ∙ lesser v w c.ranges.left-valid.fits c.ranges.right-valid.fits l r c.below-in-Gte.result c.below-in-Gte.ensures))
+    (others Lt Gte (eighth v l) (eighth w r) c.lesser_rows-in-Gte.result not_less
+    (c.lesser_rows-in-Gte.ensures ∙ lesser v w c.ranges.left_valid.fits c.ranges.right_valid.fits l r c.below-in-Gte.result c.below-in-Gte.ensures))
 
 pub returns-in-Gt : goal.returns-in-Gt
 returns-in-Gt g c =
     let m = g.P.EightPairs in
-    let v = c.args.left-valid in
-    let w = c.args.right-valid in
+    let v = c.args.left_valid in
+    let w = c.args.right_valid in
     let l = m.left c.args.pairs.now in
     let r = m.right c.args.pairs.now in
     at_operator g.O.FixedOperator.means Gt (eighth v l) (eighth w r) _ (sym c.operator.ensures ∙ c.in-Gt.is)
-    (exchanged Lt (eighth w r) (eighth v l) c.lesser-rows-in-Gt.result
-    (c.lesser-rows-in-Gt.ensures ∙ lesser w v c.ranges.right-valid.fits c.ranges.left-valid.fits r l c.above.result c.above.ensures))
+    (exchanged Lt (eighth w r) (eighth v l) c.lesser_rows-in-Gt.result
+    (c.lesser_rows-in-Gt.ensures ∙ lesser w v c.ranges.right_valid.fits c.ranges.left_valid.fits r l c.above.result c.above.ensures))
 
 pub returns-in-Lte : goal.returns-in-Lte
 returns-in-Lte g c =
     let m = g.P.EightPairs in
-    let v = c.args.left-valid in
-    let w = c.args.right-valid in
+    let v = c.args.left_valid in
+    let w = c.args.right_valid in
     let l = m.left c.args.pairs.now in
     let r = m.right c.args.pairs.now in
     at_operator g.O.FixedOperator.means Lte (eighth v l) (eighth w r) _ (sym c.operator.ensures ∙ c.in-Lte.is)
-    (others Gt Lte (eighth v l) (eighth w r) c.lesser-rows-in-Lte.result not_greater
-    (exchanged Lt (eighth w r) (eighth v l) c.lesser-rows-in-Lte.result
-    (c.lesser-rows-in-Lte.ensures ∙ lesser w v c.ranges.right-valid.fits c.ranges.left-valid.fits r l c.above-in-Lte.result c.above-in-Lte.ensures)))
+    (others Gt Lte (eighth v l) (eighth w r) c.lesser_rows-in-Lte.result not_greater
+    (exchanged Lt (eighth w r) (eighth v l) c.lesser_rows-in-Lte.result
+    (c.lesser_rows-in-Lte.ensures ∙ lesser w v c.ranges.right_valid.fits c.ranges.left_valid.fits r l c.above-in-Lte.result c.above-in-Lte.ensures)))

@@ -13,5 +13,5 @@ loop-b-preserved g c =
       below_more _ _
           (λ j h. let ne : j ≢ c.loop-b.b = omega arith in rw get_or-set_other (c.loop-b.invariant.1 j h))
           (let lt : c.loop-b.b < length c.loop-b.keys = omega arith in
-          rw get_or-set_same (to_z-of_z w128 c.key-of.result (record { sfits = c.key-of.type-inv }) ∙ c.key-of.ensures ∙ ap (key_of p) c.read.ensures ∙ ap (λ i. key_of p (pattern_at (width_of p) c.args.eight.now.bytes.now i)) c.place.ensures.value)),
+          rw get_or-set_same (to_z-of_z w128 c.key_of.result (record { sfits = c.key_of.type_inv }) ∙ c.key_of.ensures ∙ ap (key_of p) c.read.ensures ∙ ap (λ i. key_of p (pattern_at (width_of p) c.args.eight.now.bytes.now i)) c.place.ensures.value)),
     )

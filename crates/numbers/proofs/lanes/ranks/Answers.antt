@@ -19,8 +19,8 @@ returns g c =
     let below : (b : ℕ) → f b < 2 ^ (8 * w) = λ b. mod_below (m b) (2 ^ (8 * w)) (pow_pos (8 * w)) in
     let some : 0 < w = search rules in
     let most : w ≤ 4 = search rules in
-    let class = sym (c.class.ensures ∙ ap class_of c.element-type.ensures) in
-    let wide = c.element-width.ensures in
+    let class = sym (c.class.ensures ∙ ap class_of c.element_type.ensures) in
+    let wide = c.element_width.ensures in
     let patterns = c.patterns-patterns.ensures in
     elim c.match-class.branch [
       | in-Unsigned v ↦
@@ -34,7 +34,7 @@ returns g c =
           record { long = all.0; ranked = all.1 })
       | in-Float v ↦
           (let all = lanes_of c.match-class.result (λ b. bit_xor (bit_xor (f b) (flip 32 w (f b))) (sign_bit w)) k
-          (v.result-is ∙ v.turned-in-Float.ensures (λ b. bit_xor (f b) (flip 32 c.element-width.result (f b))) (v.flipped.ensures f patterns) ∙ ap (λ u. eight_of (λ b. bit_xor (bit_xor (f b) (flip 32 u (f b))) (sign_bit u))) wide)
+          (v.result-is ∙ v.turned-in-Float.ensures (λ b. bit_xor (f b) (flip 32 c.element_width.result (f b))) (v.flipped.ensures f patterns) ∙ ap (λ u. eight_of (λ b. bit_xor (bit_xor (f b) (flip 32 u (f b))) (sign_bit u))) wide)
           (λ b. at_class p Float (m b) (bit_xor (bit_xor (f b) (flip 32 w (f b))) (sign_bit w)) (class ∙ v.in-Float.is) (float_rank w (f b) (narrow p c.requires.0) some most (below b))) in
           record { long = all.0; ranked = all.1 })
     ]

@@ -8,8 +8,8 @@ use Rattle.numbers.proofs.Elements.{as_kind, one_key, bits_eight}
 use Rattle.numbers.proofs.Vectors.{lane_of, mask_bits}
 use Rattle.numbers.proofs.same.one_pattern.Goals as goal
 
-pub returns-then-element-width-lt8 : goal.returns-then-element-width-lt8
-returns-then-element-width-lt8 g c =
+pub returns-then-element_width-lt8 : goal.returns-then-element_width-lt8
+returns-then-element_width-lt8 g c =
     let l = c.args.left.now in
     let r = c.args.right.now in
     let p = g.K.ElementKind.kind in
@@ -29,5 +29,5 @@ returns g c =
     let e : width_of p ≡ 8 = search rules in
     bits_eight _ _ _ c.alike.ensures
     (λ b h.
-    ap₂ (λ x y. is_eq (int_cmp x y)) (c.eight-keys-left.ensures b h) (c.eight-keys-right.ensures b h)
+    ap₂ (λ x y. is_eq (int_cmp x y)) (c.eight_keys-left.ensures b h) (c.eight_keys-right.ensures b h)
     ∙ sym (as_kind p U64 e l.bytes.now r.bytes.now l.start r.start g.S.Spread.fixed g.T.Spread.fixed b))

@@ -9,8 +9,8 @@ pub loop-k-preserved : goal.loop-k-preserved
 loop-k-preserved g c =
     let m = g.C.RowComparator in
     let f = result_at (m.left c.args.comparator.now) (m.right c.args.comparator.now) g.O.FixedOperator.means in
-    write_more (byte_at f c.args.len) c.loop-k.k c.whole-byte.result c.args.out.now c.loop-k.out
-    (omega arith) c.loop-k.invariant (c.whole-byte.ensures ∙ ap (bits f (8 * c.loop-k.k)) (omega arith))
+    write_more (byte_at f c.args.len) c.loop-k.k c.whole_byte.result c.args.out.now c.loop-k.out
+    (omega arith) c.loop-k.invariant (c.whole_byte.ensures ∙ ap (bits f (8 * c.loop-k.k)) (omega arith))
 
 pub returns-then-len-gt0 : goal.returns-then-len-gt0
 returns-then-len-gt0 g c =
@@ -20,5 +20,5 @@ returns-then-len-gt0 g c =
     let out = c.args.out.now in
     let so_far : ℕ → List ℕ = λ i. map (byte_at f n) (range_with_len 0 i) ++ drop i out in
     let done : c.loop-k.out ≡ so_far (n / 8) = subst (λ i. c.loop-k.out ≡ so_far i) (omega arith) c.loop-k.invariant in
-    let byte : c.pack-rows.result ≡ byte_at f n (n / 8) = c.pack-rows.ensures ∙ ap (bits f (8 * (n / 8))) (omega arith) in
-    write_more (byte_at f n) (n / 8) c.pack-rows.result out c.loop-k.out (omega arith) done byte ∙ ap so_far (omega arith)
+    let byte : c.pack_rows.result ≡ byte_at f n (n / 8) = c.pack_rows.ensures ∙ ap (bits f (8 * (n / 8))) (omega arith) in
+    write_more (byte_at f n) (n / 8) c.pack_rows.result out c.loop-k.out (omega arith) done byte ∙ ap so_far (omega arith)

@@ -15,16 +15,16 @@ returns g c =
     let op = c.args.op in
     let out = c.args.out.now in
     let back = c.args.back.now in
-    let two = c.in-ok-size.ensures in
-    let both = grants_both xs ys us vs n (length out) (length back) c.in-ok-size.size two in
-    let first : c.collect-ordering-bits.new.out ≡ collected xs ys op n ++ drop (bytes_for n) out =
-    leaves xs ys n (length out) _ (collected xs ys op n) out _ _ both.0 c.collect-ordering-bits.ensures.answers c.collect-ordering-bits.ensures.writes in
-    let second : c.collect-ordering-bits-2.new.out ≡ collected us vs (swapped op) n ++ drop (bytes_for n) back =
-    leaves us vs n (length back) _ (collected us vs (swapped op) n) back _ _ both.1 c.collect-ordering-bits-2.ensures.answers
-    (c.collect-ordering-bits-2.ensures.writes ∙ ap (λ o. written c.collect-ordering-bits-2.result (collected us vs o n) back) c.swap.ensures.value) in
+    let two = c.in_ok-size.ensures in
+    let both = grants_both xs ys us vs n (length out) (length back) c.in_ok-size.size two in
+    let first : c.collect_ordering_bits.new.out ≡ collected xs ys op n ++ drop (bytes_for n) out =
+    leaves xs ys n (length out) _ (collected xs ys op n) out _ _ both.0 c.collect_ordering_bits.ensures.answers c.collect_ordering_bits.ensures.writes in
+    let second : c.collect_ordering_bits-2.new.out ≡ collected us vs (swapped op) n ++ drop (bytes_for n) back =
+    leaves us vs n (length back) _ (collected us vs (swapped op) n) back _ _ both.1 c.collect_ordering_bits-2.ensures.answers
+    (c.collect_ordering_bits-2.ensures.writes ∙ ap (λ o. written c.collect_ordering_bits-2.result (collected us vs o n) back) c.swap.ensures.value) in
     record {
       answers = two;
       writes = first ∙ ap (λ k. collected xs ys op n ++ drop k out) (sym both.2);
-      writes-back = second ∙ ap (λ k. collected us vs (swapped op) n ++ drop k back) (sym both.2);
+      writes_back = second ∙ ap (λ k. collected us vs (swapped op) n ++ drop k back) (sym both.2);
       law = λ p q t. same_bytes xs ys us vs op n _ _ _ _ p q first second;
     }

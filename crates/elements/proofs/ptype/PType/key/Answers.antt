@@ -22,15 +22,15 @@ unsigned_key n width low e = ap pos e
 
 pub returns-in-Unsigned : goal.returns-in-Unsigned
 returns-in-Unsigned c =
-    by_class c.args.self Unsigned c.byte-width-width.result c.args.pattern _ c.in-Unsigned.ensures c.byte-width-width.ensures
-    (omega (arith, ints) ∙ unsigned_key c.args.pattern c.byte-width-width.result c.low-number.result c.low-number.ensures)
+    by_class c.args.self Unsigned c.byte_width-width.result c.args.pattern _ c.in-Unsigned.ensures c.byte_width-width.ensures
+    (omega (arith, ints) ∙ unsigned_key c.args.pattern c.byte_width-width.result c.low_number.result c.low_number.ensures)
 
 pub returns-in-Signed : goal.returns-in-Signed
 returns-in-Signed c =
-    by_class c.args.self Signed c.byte-width-width.result c.args.pattern _ c.in-Signed.ensures c.byte-width-width.ensures
-    (wide c.signed-key.result (record { sfits = c.signed-key.type-inv }) ∙ c.signed-key.ensures)
+    by_class c.args.self Signed c.byte_width-width.result c.args.pattern _ c.in-Signed.ensures c.byte_width-width.ensures
+    (wide c.signed_key.result (record { sfits = c.signed_key.type_inv }) ∙ c.signed_key.ensures)
 
 pub returns-in-Float : goal.returns-in-Float
 returns-in-Float c =
-    by_class c.args.self Float c.byte-width-width.result c.args.pattern _ c.in-Float.ensures c.byte-width-width.ensures
-    (wide c.float-key.result (record { sfits = c.float-key.type-inv }) ∙ c.float-key.ensures)
+    by_class c.args.self Float c.byte_width-width.result c.args.pattern _ c.in-Float.ensures c.byte_width-width.ensures
+    (wide c.float_key.result (record { sfits = c.float_key.type_inv }) ∙ c.float_key.ensures)

@@ -6,7 +6,7 @@ pub returns : goal.returns
 returns g c =
     let s = c.args.self.now in
     let p = g.K.ElementKind.kind in
-    let is = c.element-width.ensures in
+    let is = c.element_width.ensures in
     record {
       within = eight_lie p s.bytes.now s.start s.validity s.len _ is (8 * c.args.k) c.requires;
       means = eight_mean p s.bytes.now s.start s.validity s.len _ is (8 * c.args.k);

@@ -13,6 +13,6 @@ returns-in-Some g c =
     let p = g.K.ElementKind.kind in
     let e = c.in-Some.element in
     ap number
-    (to_z-of_z w128 c.key-of.result (record { sfits = c.key-of.type-inv }) ∙ c.key-of.ensures ∙ ap (key_of p) c.read.ensures
+    (to_z-of_z w128 c.key_of.result (record { sfits = c.key_of.type_inv }) ∙ c.key_of.ensures ∙ ap (key_of p) c.read.ensures
     ∙ ap (λ i. key_of p (pattern_at (width_of p) e.bytes.now i)) (sym (first (width_of p) e.start true)))
     ∙ sym (c.in-Some.ensures.1 0)

@@ -12,12 +12,12 @@ returns-then-i-rows g c =
     let n = standing (width_of p) s.bytes.now s.start s.validity s.len in
     sym (row_past (valid_at s.validity s.bytes.now) (key_at p s.bytes.now s.start) n c.args.i (omega arith))
 
-pub returns-then-not-is-valid : goal.returns-then-not-is-valid
-returns-then-not-is-valid g c =
+pub returns-then-not-is_valid : goal.returns-then-not-is_valid
+returns-then-not-is_valid g c =
     let s = c.args.self.now in
     let p = g.K.ElementKind.kind in
     let n = standing (width_of p) s.bytes.now s.start s.validity s.len in
-    sym (row_null (valid_at s.validity s.bytes.now) (key_at p s.bytes.now s.start) n c.args.i (omega arith) (sym c.is-valid.ensures ∙ c.if-not-is-valid.true))
+    sym (row_null (valid_at s.validity s.bytes.now) (key_at p s.bytes.now s.start) n c.args.i (omega arith) (sym c.is_valid.ensures ∙ c.if-not-is_valid.true))
 
 pub returns : goal.returns
 returns g c =
@@ -26,9 +26,9 @@ returns g c =
     let i = c.args.i in
     let n = standing (width_of p) s.bytes.now s.start s.validity s.len in
     let lt : i < n = omega arith in
-    let is = c.element-width.ensures in (
+    let is = c.element_width.ensures in (
       one_lies p s.bytes.now s.start s.validity s.len _ is i lt,
       λ b.
-          sym (row_key (valid_at s.validity s.bytes.now) (key_at p s.bytes.now s.start) n i _ lt (sym c.is-valid.ensures ∙ c.if-not-is-valid.false)
+          sym (row_key (valid_at s.validity s.bytes.now) (key_at p s.bytes.now s.start) n i _ lt (sym c.is_valid.ensures ∙ c.if-not-is_valid.false)
           (one_means p s.bytes.now s.start s.validity s.len _ is i b)),
     )

@@ -22,7 +22,7 @@ there s i h false e = says_null s i (null_there s i h e)
 
 pub returns-then-i-rows : goal.returns-then-i-rows
 returns-then-i-rows c =
-    let p = there c.args.self.now c.args.i (omega (arith, c.rows.ensures.stands)) c.is-valid.result (sym c.is-valid.ensures) in
+    let p = there c.args.self.now c.args.i (omega (arith, c.rows.ensures.stands)) c.is_valid.result (sym c.is_valid.ensures) in
     record { value = p.0; invalid = p.1; above = p.2; below = p.3 }
 
 pub returns-else-i-rows : goal.returns-else-i-rows

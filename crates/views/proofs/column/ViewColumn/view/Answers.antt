@@ -9,23 +9,23 @@ use Rattle.views.proofs.column.ViewColumn.view.Goals as goal
 lies : (s : ViewColumn) (i : ℕ) → is_null (row (rows_of s) i) ≡ false → s.views + 16 * i + 16 ≤ length s.bytes.now
 lies s i e = view_lies s i (not_null s i e).0
 
-pub overflow-mul-at : goal.overflow-mul-at
-overflow-mul-at c = omega (arith, lies c.args.self.now c.args.i c.requires)
+pub overflow_mul-at : goal.overflow_mul-at
+overflow_mul-at c = omega (arith, lies c.args.self.now c.args.i c.requires)
 
-pub overflow-add-at : goal.overflow-add-at
-overflow-add-at c = omega (arith, lies c.args.self.now c.args.i c.requires)
+pub overflow_add-at : goal.overflow_add-at
+overflow_add-at c = omega (arith, lies c.args.self.now c.args.i c.requires)
 
-pub read-within-view-requires : goal.read-within-view-requires
-read-within-view-requires c = lies c.args.self.now c.args.i c.requires
+pub read_within-view-requires : goal.read_within-view-requires
+read_within-view-requires c = lies c.args.self.now c.args.i c.requires
 
-pub invariant-of-result : goal.invariant-of-result
-invariant-of-result c =
+pub invariant_of-result : goal.invariant_of-result
+invariant_of-result c =
     let s = c.args.self.now in
     let n = not_null s c.args.i c.requires in
-    (lies s c.args.i c.requires, (c.read-within-view.ensures, (ap is_some (ap (view_fault s.bytes.now s.buffers.now) c.read-within-view.ensures ∙ view_good s c.args.i n.0 n.1), tt)))
+    (lies s c.args.i c.requires, (c.read_within-view.ensures, (ap is_some (ap (view_fault s.bytes.now s.buffers.now) c.read_within-view.ensures ∙ view_good s c.args.i n.0 n.1), tt)))
 
 pub returns : goal.returns
 returns c =
     let s = c.args.self.now in
     let n = not_null s c.args.i c.requires in
-    text_there s c.args.i n.0 n.1 ∙ ap (λ w. text (value_of s.bytes.now s.buffers.now w)) (sym c.read-within-view.ensures)
+    text_there s c.args.i n.0 n.1 ∙ ap (λ w. text (value_of s.bytes.now s.buffers.now w)) (sym c.read_within-view.ensures)

@@ -9,5 +9,5 @@ use Rattle.views.proofs.constant.TextConstant.new.Goals as goal
 all_of_it : (bs : List ℕ) → take 16 (image_of bs) ≡ image_of bs
 all_of_it bs = ap (λ r. le_bytes 4 (min (length bs) 4294967295) ++ r) (take_all 12 (window 12 bs) (omega (arith, length_window 12 bs)))
 
-pub invariant-of-result : goal.invariant-of-result
-invariant-of-result c = (c.read-within-image.ensures ∙ ap (take 16) c.image-bytes.ensures ∙ all_of_it c.args.bytes.now, tt)
+pub invariant_of-result : goal.invariant_of-result
+invariant_of-result c = (c.read_within-image.ensures ∙ ap (take 16) c.image_bytes.ensures ∙ all_of_it c.args.bytes.now, tt)

@@ -22,8 +22,8 @@ module _ (s : ResolvedView) (long : 12 < size_of (view_bytes s.view)) where
   shown : (b : List ℕ) (n o : ℕ) → b ≡ buffer_of s.bytes.now s.buffers.now (view_bytes s.view) → n ≡ size_of (view_bytes s.view) → o ≡ offset_of (view_bytes s.view) → take n (drop o b) ≡ value s
   shown b n o is_b is-n is-o = (λ i. take (is-n i) (drop (is-o i) (is_b i))) ∙ sym (value_long s.bytes.now s.buffers.now (view_bytes s.view) long)
 
-pub slice-bounds-result-end : goal.slice-bounds-result-end
-slice-bounds-result-end c =
+pub slice_bounds-result-end : goal.slice_bounds-result-end
+slice_bounds-result-end c =
     let s = c.args.self in
     let is_b = buffer_is s c.of-buffer.result.now c.index.result c.index.ensures c.of-buffer.ensures in
     omega (arith, inside s c.requires c.of-buffer.result.now is_b, c.offset-start.ensures, c.size.ensures)

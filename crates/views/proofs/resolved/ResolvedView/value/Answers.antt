@@ -11,10 +11,10 @@ short_there bytes w at n is-w h =
     ap (take n) (sym (drop-drop 4 at bytes)) ∙ sym (take-take n 12 (drop 4 (drop at bytes)) h) ∙ ap (take n) (sym (drop-take 4 12 (drop at bytes)))
     ∙ ap (λ ys. take n (drop 4 ys)) (sym is-w)
 
-pub returns-then-is-inlined : goal.returns-then-is-inlined
-returns-then-is-inlined c =
+pub returns-then-is_inlined : goal.returns-then-is_inlined
+returns-then-is_inlined c =
     let s = c.args.self in
     let w = view_bytes s.view in
-    let h : size_of w ≤ 12 = leb-true (size_of w) 12 (sym c.if-is-inlined.ensures) in
+    let h : size_of w ≤ 12 = leb-true (size_of w) 12 (sym c.if-is_inlined.ensures) in
     let n : s.at + 4 + c.size.result - (s.at + 4) ≡ size_of w = omega (arith, c.size.ensures) in
     ap (λ k. take k (drop (s.at + 4) s.bytes.now)) n ∙ short_there s.bytes.now w s.at (size_of w) s.stands h ∙ sym (value_short s.bytes.now s.buffers.now w h)

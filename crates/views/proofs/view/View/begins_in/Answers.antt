@@ -18,9 +18,9 @@ returns c =
     let w = view_bytes c.args.self in
     let buffer = c.args.buffer.now in
     let start = c.offset-start.result in
-    let inlined = c.inlined-bytes-inlined.result in
+    let inlined = c.inlined_bytes-inlined.result in
     let long : 12 < size_of w = leb-false (size_of w) 12 c.requires.0 in
     let n : start + 4 - start ≡ 4 = omega arith in
     tested (take 4 inlined) (take (start + 4 - start) (drop start buffer)) c.eq.result (slice_eq-Decides _ _ _ c.eq.ensures)
-    ∙ ap₂ bytes_eq (four w inlined c.inlined-bytes-inlined.ensures)
+    ∙ ap₂ bytes_eq (four w inlined c.inlined_bytes-inlined.ensures)
     (ap₂ (λ k s. take k (drop s buffer)) n c.offset-start.ensures ∙ sym (take-take 4 (size_of w) (drop (offset_of w) buffer) (omega arith)))

@@ -11,4 +11,4 @@ told bytes buffers w (Ok x) e = formed bytes buffers w (sym e)
 told bytes buffers w (Err f) e = λ well. true≢false (ap is_some (e ∙ unfaulted bytes buffers w well))
 
 pub returns : goal.returns
-returns c = record { answers = c.find-fault.ensures; formed = told c.args.bytes.now c.args.buffers.now (view_bytes c.args.self) c.find-fault.result c.find-fault.ensures }
+returns c = record { answers = c.find_fault.ensures; formed = told c.args.bytes.now c.args.buffers.now (view_bytes c.args.self) c.find_fault.result c.find_fault.ensures }

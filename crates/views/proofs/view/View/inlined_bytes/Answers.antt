@@ -12,4 +12,4 @@ pub returns : goal.returns
 unfolding view_bytes
 returns c =
     let v = c.args.self in
-    twelve c.to-le-bytes-low.result c.to-le-bytes-high.result v.low v.high (c.to-le-bytes-low.ensures ∙ eight_bytes v.low) (c.to-le-bytes-high.ensures ∙ eight_bytes v.high)
+    twelve c.to_le_bytes-low.result c.to_le_bytes-high.result v.low v.high (c.to_le_bytes-low.ensures ∙ eight_bytes v.low) (c.to_le_bytes-high.ensures ∙ eight_bytes v.high)

@@ -6,4 +6,4 @@ use Rattle.views.proofs.view.View.order_prefix.Goals as goal
 
 pub returns : goal.returns
 unfolding view_bytes prefix_of
-returns c = c.swap-bytes.ensures ∙ turned_four (c.args.self.low / 4294967296) ∙ ap (number_from_digits 256) (sym (high_bytes c.args.self.low))
+returns c = c.swap_bytes.ensures ∙ turned_four (c.args.self.low / 4294967296) ∙ ap (number_from_digits 256) (sym (high_bytes c.args.self.low))

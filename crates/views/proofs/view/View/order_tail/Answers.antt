@@ -5,4 +5,4 @@ use Rattle.views.proofs.view.View.order_tail.Goals as goal
 
 pub returns : goal.returns
 unfolding view_bytes
-returns c = c.swap-bytes.ensures ∙ turned_eight c.args.self.high
+returns c = c.swap_bytes.ensures ∙ turned_eight c.args.self.high

@@ -18,7 +18,7 @@ unfolding view_bytes
 returns c =
     let bytes = c.args.bytes.now in
     let at = c.args.at in
-    let u : AllBelowBase 256 bytes = under_all bytes (λ k. omega (arith, c.type-inv.bytes k)) in
+    let u : AllBelowBase 256 bytes = under_all bytes (λ k. omega (arith, c.type_inv.bytes k)) in
     ap₂ (λ l h. le_bytes 8 l ++ le_bytes 8 h) c.read-low.ensures c.read-high.ensures
     ∙ ap₂ ◌++◌ (pattern_bytes 8 bytes at u (omega arith)) (pattern_bytes 8 bytes (at + 8) u (omega arith))
     ∙ sixteen bytes at
