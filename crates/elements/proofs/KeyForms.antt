@@ -1,5 +1,5 @@
 -- The keys as the code computes them. Assumes nothing.
-use Rattle.std.proofs.Common.{◌≡◌, ℕ, suc, ◌+◌, ◌-◌, ◌*◌, ◌/◌, ◌%◌, ◌^◌, ◌<◌, ◌≤◌, true, false, cond, ltb, ℤ, pos, negsuc, ◌-ℤ◌, sym, refl, ap, ◌∙◌, subst, ap₂, ⊎_elim, mod-eq_of_lt, add-mul, arith, w8, w16, w32, w64, SFits, to_z, of_z}
+use Rattle.std.proofs.Common.{◌≡◌, ℕ, suc, ◌+◌, ◌-◌, ◌*◌, ◌/◌, ◌%◌, ◌^◌, ◌<◌, ◌≤◌, true, ltb, ℤ, pos, negsuc, ◌-ℤ◌, sym, ap, ◌∙◌, subst, ap₂, ⊎_elim, mod-eq_of_lt, add-mul, arith, w8, w16, w32, w64, SFits, to_z, of_z}
 use native.Mathlib.Nat.{two-pow-succ, div-eq_of_lt, zero-div}
 use lib.Bits.{bit_and, bit_xor, xor_zero_r, xor_block, xor_add_and}
 use mir.Syntax.{Width, w128}
@@ -8,7 +8,7 @@ use Rattle.std.proofs.lemmas.Nat.{and_mask, div-mul-add, pow-add, pow_pos}
 use Rattle.std.proofs.lemmas.Int.{ints, to_z-of_z}
 use Rattle.std.proofs.lemmas.Bool.{cases_lt, cond-true, cond-false, lt-ltb, le-ltb}
 use Rattle.std.proofs.lemmas.Bool.Decides.{nat_tests}
-use Rattle.elements.specs.declared.ptype.Class.TheVariants.{Unsigned, Signed, Float}
+use Rattle.elements.specs.declared.ptype.Class.TheVariants.{Signed, Float}
 use Rattle.elements.specs.Keys.{key_by, sign_bit, low_bytes}
 
 -- a mask of so many bits takes the lowest bytes

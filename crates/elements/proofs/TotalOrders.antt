@@ -9,7 +9,6 @@ use Rattle.std.proofs.lemmas.Int.{ints}
 use Rattle.std.proofs.lemmas.Bool.{ltb-true, ltb-false, leb-true, leb-false, eqb-true, eqb-false, not-true, and_parts, lt-ltb, le-ltb, le-leb, lt-leb, ne_eqb, cond-false, cases_lt, cases_order}
 use Rattle.std.proofs.lemmas.Bool.Decides.{nat_tests}
 use Rattle.std.specs.Ordering.{is_le, int_cmp}
-use Rattle.elements.specs.declared.ptype.Class.TheVariants.{Float}
 use Rattle.elements.specs.Keys.{sign_bit, key_by}
 use Rattle.elements.specs.TotalOrder.{KeysAreTotalOrder, TotalOrder, Number, NaN, negative, exponent, significand, top_exponent, is_quiet, payload, absolute, value, key_le}
 

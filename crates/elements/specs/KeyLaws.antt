@@ -1,6 +1,6 @@
 -- Every kind's key keeps the law of an element kind. Assumes nothing.
-use Rattle.std.specs.Prelude.{◌≡◌, ℕ, ◌-◌, ◌*◌, ◌^◌, ◌<◌, ◌≤◌, Bool, true, false, cond, ℤ, pos, negsuc, ◌-ℤ◌, nat_lt, refl}
-use Rattle.std.proofs.Common.{sym, ap, subst, ◌∙◌, mod-eq_of_lt, arith}
+use Rattle.std.specs.Prelude.{◌≡◌, ℕ, ◌-◌, ◌*◌, ◌^◌, ◌<◌, ◌≤◌, Bool, true, false, cond, pos, negsuc, ◌-ℤ◌, nat_lt, refl}
+use Rattle.std.proofs.Common.{sym, ap, ◌∙◌, mod-eq_of_lt, arith}
 use Rattle.std.proofs.lemmas.Int.{ints}
 use Rattle.std.proofs.lemmas.Bool.{ltb-false}
 use Rattle.rows.proofs.Orders.{numbers}
@@ -8,7 +8,7 @@ use Rattle.elements.specs.declared.ptype.Class.{Class}
 use Rattle.elements.specs.declared.ptype.Class.TheVariants.{Unsigned, Signed, Float}
 use Rattle.elements.specs.declared.ptype.PType.{PType}
 use Rattle.elements.specs.Kinds.{class_of, width_of}
-use Rattle.elements.specs.Keys.{sign_bit, low_bytes, key_by, key_of, KeyLaw}
+use Rattle.elements.specs.Keys.{sign_bit, key_by, key_of, KeyLaw}
 
 -- two patterns with one key, by their sign bits
 signed_one : (A m n : ℕ) (a b : Bool) → m < A → n < A → cond a (pos m) (pos m -ℤ pos A) ≡ cond b (pos n) (pos n -ℤ pos A) → m ≡ n

@@ -1,6 +1,6 @@
 -- The key of an element's pattern, and the law of an element kind. Assumes nothing.
 use Rattle.std.specs.Prelude.{◌≡◌, ℕ, ◌-◌, ◌*◌, ◌%◌, ◌^◌, ◌<◌, cond, ℤ, pos, negsuc, ◌-ℤ◌, ◌≢◌, nat_lt}
-use Rattle.std.specs.declared.cmp.Ordering.TheVariants.{Less, Equal, Greater}
+use Rattle.std.specs.declared.cmp.Ordering.TheVariants.{Equal, Greater}
 use Rattle.std.specs.declared.cmp.Ordering.{Ordering}
 use Rattle.std.specs.Ordering.{ordering_reverse, int_cmp}
 use Rattle.elements.specs.declared.ptype.PType.{PType}

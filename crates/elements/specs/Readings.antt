@@ -1,9 +1,8 @@
 -- Worked readings of the definitions. Assumes nothing.
-use Rattle.std.specs.Prelude.{◌≡◌, Bool, false, [], ◌∷◌, pos, negsuc, codes}
+use Rattle.std.specs.Prelude.{◌≡◌, false, [], ◌∷◌, pos, negsuc, codes}
 use Rattle.std.specs.declared.cmp.Ordering.TheVariants.{Less, Equal, Greater}
-use Rattle.std.specs.declared.cmp.Ordering.{Ordering}
 use Rattle.rows.specs.Operators.{holds}
-use Rattle.rows.specs.Row.{Row, null, number, list, text, is_null, order}
+use Rattle.rows.specs.Row.{null, number, list, text, is_null, order}
 use Rattle.rows.specs.declared.operator.CompareOperator.TheVariants.{Eq}
 use Rattle.elements.specs.declared.ptype.PType.TheVariants.{F32}
 use Rattle.elements.specs.Keys.{key_of, by_key}

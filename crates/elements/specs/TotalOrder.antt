@@ -1,6 +1,6 @@
 -- IEEE 754 totalOrder on the patterns of a binary interchange format: `width` bytes, whose lowest `fraction` bits are the trailing significand field.
 -- Above it stands the biased exponent field, and above that the sign bit. Assumes nothing.
-use Rattle.std.specs.Prelude.{◌≡◌, ℕ, ◌+◌, ◌-◌, ◌*◌, ◌/◌, ◌%◌, ◌^◌, ◌<◌, ◌≤◌, Bool, true, false, cond, not, ◌&&◌, ℤ, pos, neg_ℤ, ◌<ℤ◌, ◌==◌, nat_le, nat_lt}
+use Rattle.std.specs.Prelude.{◌≡◌, ℕ, ◌+◌, ◌-◌, ◌*◌, ◌/◌, ◌%◌, ◌^◌, ◌<◌, Bool, true, false, cond, not, ◌&&◌, ℤ, pos, neg_ℤ, ◌<ℤ◌, ◌==◌, nat_le, nat_lt}
 use Rattle.std.specs.Ordering.{is_le, int_cmp}
 use Rattle.elements.specs.declared.ptype.Class.TheVariants.{Float}
 use Rattle.elements.specs.Keys.{sign_bit, key_by}

@@ -1,11 +1,11 @@
 -- The laws of collections. Assumes nothing.
-use Rattle.std.proofs.Common.{◌≡◌, ℕ, ◌/◌, ◌%◌, ◌^◌, ◌<◌, ◌≤◌, Bool, true, false, List, ◌++◌, length, take, drop, Ok, Err, Result, Ordering, Less, Equal, Greater, sym, refl, ap, ◌∙◌, ap₂, ⊎_elim, arith}
+use Rattle.std.proofs.Common.{◌≡◌, ℕ, ◌/◌, ◌%◌, ◌^◌, ◌<◌, Bool, true, false, List, ◌++◌, length, take, drop, Ok, Result, Ordering, Less, Equal, Greater, sym, refl, ap, ◌∙◌, ap₂, ⊎_elim, arith}
 use Rattle.std.proofs.lemmas.List.FromFn.{length-map-range_with_len}
 use Rattle.std.proofs.lemmas.List.{get_or_append_left, take_at}
 use Rattle.std.proofs.lemmas.Bool.{cases_lt, false≢true}
 use Rattle.std.proofs.lemmas.Bool.Decides.{nat_tests}
 use Rattle.faults.specs.declared.CollectFault.{CollectFault}
-use Rattle.std.specs.Ordering.{ordering_reverse, is_le}
+use Rattle.std.specs.Ordering.{is_le}
 use Rattle.rows.specs.Row.{Row, row, order}
 use Rattle.rows.specs.Bits.{digit, bit_of, bytes_of, byte_at, bytes_for}
 use Rattle.rows.specs.Operators.{holds, swapped, Mirrors}

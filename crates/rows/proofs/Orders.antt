@@ -1,6 +1,6 @@
 -- The order of row values is a total order. Assumes nothing.
 use Rattle.std.proofs.Common.{◌≡◌, ℕ, ◌<◌, ◌≤◌, Bool, true, false, cond, ltb, ◌⊎◌, List, [], ◌∷◌, ◌++◌, ℤ, pos, ◌<ℤ◌, Ordering, Less, Equal, Greater, sym, refl, ap, ◌∙◌, subst, inl, inr, true≢false, arith, nat_cmp, ltb-false, ltb-true}
-use Rattle.std.specs.Ordering.{MatchOrdering, int_cmp, is_eq, is_gt, is_lt, ordering_reverse, ordering_then}
+use Rattle.std.specs.Ordering.{MatchOrdering, int_cmp, is_gt, is_lt, ordering_reverse, ordering_then}
 use Rattle.std.specs.Cmp.{int_ranks, int_cmp_total, nat_cmp_is}
 use Rattle.std.specs.Cmp.Lexicographic.{slice_cmp}
 use Rattle.rows.specs.Row.{Row, Rows, null, number, rows, none, more, packed, items, list, text, order, orders}

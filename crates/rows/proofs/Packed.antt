@@ -1,7 +1,7 @@
 -- Laws of bits bytes_of into bytes. Assumes nothing.
-use Rattle.std.proofs.Common.{◌≡◌, ℕ, zero, suc, ◌+◌, ◌-◌, ◌*◌, ◌/◌, ◌%◌, ◌^◌, ◌<◌, ◌≤◌, min, Bool, true, false, cond, List, [], ◌∷◌, ◌++◌, map, length, get_or, drop, set, sym, refl, ap, ◌∙◌, subst, ⊎_elim, lt_of_lt_of_le, add-zero, add_assoc, mul_assoc, mul_comm, pow-suc, mul-zero, zero-add, mul-one, mul-add, add-one, arith, pow_mono}
+use Rattle.std.proofs.Common.{◌≡◌, ℕ, zero, suc, ◌+◌, ◌-◌, ◌*◌, ◌/◌, ◌%◌, ◌^◌, ◌<◌, ◌≤◌, min, Bool, true, false, List, [], ◌∷◌, ◌++◌, map, length, get_or, drop, set, sym, refl, ap, ◌∙◌, subst, ⊎_elim, lt_of_lt_of_le, add-zero, mul_assoc, mul_comm, pow-suc, add-one, arith, pow_mono}
 use native.Mathlib.Nat.{zero-div, div-eq_of_lt}
-use Rattle.std.proofs.lemmas.Nat.{shr-shr, or_shifted, or_comm, pow_pos, shl_whole}
+use Rattle.std.proofs.lemmas.Nat.{shr-shr, or_shifted, or_comm, shl_whole}
 use Rattle.std.proofs.lemmas.List.FromFn.{get_or-map-range_with_len, map-range_with_len_more, length-map-range_with_len}
 use Rattle.std.proofs.lemmas.List.{get_or_past, drop_more, set_at, append_assoc}
 use Rattle.std.specs.List.{range_with_len}

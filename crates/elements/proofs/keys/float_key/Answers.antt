@@ -1,10 +1,9 @@
-use Rattle.std.proofs.Common.{◌≡◌, ◌+◌, ◌-◌, ◌*◌, ◌/◌, ◌%◌, ◌^◌, ◌<◌, ◌≤◌, sym, ap, ◌∙◌, subst, arith, w64}
-use lib.Bits.{bit_and, bit_xor}
+use Rattle.std.proofs.Common.{◌+◌, ◌-◌, ◌*◌, ◌/◌, ◌%◌, ◌^◌, ◌<◌, ◌≤◌, sym, ap, ◌∙◌, subst, arith, w64}
 use Rattle.std.proofs.lemmas.Nat.{mod_below, pow_pos}
 use Rattle.std.proofs.lemmas.Int.{to_z-of_z}
 use Rattle.std.proofs.lemmas.Bool.Decides.{nat_tests}
-use Rattle.elements.specs.declared.ptype.Class.TheVariants.{Signed, Float}
-use Rattle.elements.specs.Keys.{key_by, low_bytes, sign_bit}
+use Rattle.elements.specs.declared.ptype.Class.TheVariants.{Float}
+use Rattle.elements.specs.Keys.{key_by}
 use Rattle.elements.proofs.KeyForms.{float_form}
 use Rattle.elements.proofs.keys.float_key.Goals as goal
 

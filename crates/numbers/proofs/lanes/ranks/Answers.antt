@@ -35,6 +35,6 @@ returns g c =
       | in-Float v ↦
           (let all = lanes_of c.match-class.result (λ b. bit_xor (bit_xor (f b) (flip 32 w (f b))) (sign_bit w)) k
           (v.result-is ∙ v.turned-in-Float.ensures (λ b. bit_xor (f b) (flip 32 c.element_width.result (f b))) (v.flipped.ensures f patterns) ∙ ap (λ u. eight_of (λ b. bit_xor (bit_xor (f b) (flip 32 u (f b))) (sign_bit u))) wide)
-          (λ b. at_class p Float (m b) (bit_xor (bit_xor (f b) (flip 32 w (f b))) (sign_bit w)) (class ∙ v.in-Float.is) (float_rank w (f b) (narrow p c.requires.0) some most (below b))) in
+          (λ b. at_class p Float (m b) (bit_xor (bit_xor (f b) (flip 32 w (f b))) (sign_bit w)) (class ∙ v.in-Float.is) (float_rank w (f b) (narrow p c.requires.narrow) some most (below b))) in
           record { long = all.0; ranked = all.1 })
     ]

@@ -1,4 +1,4 @@
-use Rattle.std.proofs.Common.{min, ap, ◌∙◌, arith}
+use Rattle.std.proofs.Common.{ap, ◌∙◌, arith}
 use Rattle.rows.specs.Bits.{bits}
 use Rattle.rows.specs.Collected.{result_at, results_from}
 use Rattle.rows.proofs.BitLaws.{from_start}

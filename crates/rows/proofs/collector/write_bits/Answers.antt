@@ -1,6 +1,6 @@
-use Rattle.std.proofs.Common.{◌≡◌, ℕ, ◌+◌, ◌*◌, ◌/◌, List, ◌++◌, map, drop, ap, ◌∙◌, subst, arith}
+use Rattle.std.proofs.Common.{◌≡◌, ℕ, ◌*◌, ◌/◌, List, ◌++◌, map, drop, ap, ◌∙◌, subst, arith}
 use Rattle.std.specs.List.{range_with_len}
-use Rattle.rows.specs.Bits.{bits, byte_at, bytes_for}
+use Rattle.rows.specs.Bits.{bits, byte_at}
 use Rattle.rows.specs.Collected.{result_at}
 use Rattle.rows.proofs.Packed.{write_more}
 use Rattle.rows.proofs.collector.write_bits.Goals as goal

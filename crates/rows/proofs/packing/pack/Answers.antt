@@ -1,4 +1,4 @@
-use Rattle.std.proofs.Common.{◌+◌, ap, ◌∙◌, arith}
+use Rattle.std.proofs.Common.{ap, ◌∙◌, arith}
 use Rattle.rows.specs.Bits.{bits}
 use Rattle.rows.proofs.Packed.{bits_none, pack_more}
 use Rattle.rows.proofs.packing.pack.Goals as goal

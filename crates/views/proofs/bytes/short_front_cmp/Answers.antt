@@ -23,6 +23,6 @@ returns c =
     let all : 8 + (n - 8) ≡ n = omega arith in
     let last : 8 ≡ 8 + (n - 8) - (n - 8) = omega arith in
     c.then.ensures
-    ∙ two_parts 8 (n - 8) (n - 8) xs ys c.word_cmp.result c.word_cmp-2.result (omega (arith, c.requires.0)) (omega (arith, c.requires.1.0)) (omega (arith, c.requires.1.1)) c.word_cmp.ensures
+    ∙ two_parts 8 (n - 8) (n - 8) xs ys c.word_cmp.result c.word_cmp-2.result (omega (arith, c.requires.left_has)) (omega (arith, c.requires.right_has)) (omega (arith, c.requires.right_has.1)) c.word_cmp.ensures
     (c.word_cmp-2.ensures ∙ (λ i. byte_order (take (last i) (drop (n - 8) xs)) (take (last i) (drop (n - 8) ys))))
     ∙ (λ i. byte_order (take (all i) xs) (take (all i) ys))

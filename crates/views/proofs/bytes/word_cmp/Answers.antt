@@ -10,7 +10,7 @@ returns c =
     let xs = c.args.left.now in
     let ys = c.args.right.now in
     by_word xs ys c.args.at c.swap_bytes-left_word.result c.swap_bytes-right_word.result c.cmp.result
-    (under_all xs (λ k. omega (arith, c.type_inv.left k))) (under_all ys (λ k. omega (arith, c.type_inv.right k))) c.requires.0 c.requires.1
+    (under_all xs (λ k. omega (arith, c.type_inv.left k))) (under_all ys (λ k. omega (arith, c.type_inv.right k))) c.requires.left_has c.requires.right_has
     (c.swap_bytes-left_word.ensures ∙ turned_eight c.read.result ∙ ap (λ n. number_from_digits 256 (le_bytes 8 n)) c.read.ensures)
     (c.swap_bytes-right_word.ensures ∙ turned_eight c.read-2.result ∙ ap (λ n. number_from_digits 256 (le_bytes 8 n)) c.read-2.ensures)
     c.cmp.ensures

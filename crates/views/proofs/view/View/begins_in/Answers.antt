@@ -19,7 +19,7 @@ returns c =
     let buffer = c.args.buffer.now in
     let start = c.offset-start.result in
     let inlined = c.inlined_bytes-inlined.result in
-    let long : 12 < size_of w = leb-false (size_of w) 12 c.requires.0 in
+    let long : 12 < size_of w = leb-false (size_of w) 12 c.requires.long in
     let n : start + 4 - start ≡ 4 = omega arith in
     tested (take 4 inlined) (take (start + 4 - start) (drop start buffer)) c.eq.result (slice_eq-Decides _ _ _ c.eq.ensures)
     ∙ ap₂ bytes_eq (four w inlined c.inlined_bytes-inlined.ensures)
