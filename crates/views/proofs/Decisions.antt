@@ -2,8 +2,8 @@
 use Rattle.std.proofs.Common.{◌≡◌, ℕ, ◌+◌, ◌*◌, ◌/◌, ◌%◌, ◌^◌, ◌<◌, ◌≤◌, min, Bool, true, false, eqb, List, [], ◌∷◌, ◌++◌, length, take, drop, Ordering, Less, Equal, Greater, sym, refl, ap, ◌∙◌, subst, ap₂, true≢false, arith}
 use Rattle.std.proofs.lemmas.List.{drop-drop}
 use Rattle.std.proofs.lemmas.Bool.{eqb-true, eq-eqb}
-use Rattle.std.specs.Ordering.{is_eq, ordering_then, MatchOrdering}
-use Rattle.std.specs.Cmp.{rank, ranks, nat_cmp_total}
+use Rattle.std.specs.Ordering.{MatchOrdering, is_eq, nat_cmp, ordering_then}
+use Rattle.std.specs.Cmp.{ranks, nat_cmp_total}
 use Rattle.std.specs.Int.Digits.{number_from_digits, AllBelowBase}
 use Rattle.elements.specs.Reading.{little_endian}
 use Rattle.views.specs.declared.view.View.{View}
@@ -15,10 +15,10 @@ use Rattle.views.proofs.Windows.{lexed, by_lex, rank_eq, numbers, same_numbers, 
 
 -- ---- answers
 
-pub rank_says : (a b : ℕ) (r : Ordering) → MatchOrdering r (a < b) (a ≡ b) (b < a) → r ≡ rank a b
+pub rank_says : (a b : ℕ) (r : Ordering) → MatchOrdering r (a < b) (a ≡ b) (b < a) → r ≡ nat_cmp a b
 rank_says a b r h = nat_cmp_total.says a b r h
 
-rank_same : (a b : ℕ) → rank a b ≡ Equal → a ≡ b
+rank_same : (a b : ℕ) → nat_cmp a b ≡ Equal → a ≡ b
 rank_same a b e = subst (λ o. MatchOrdering o (a < b) (a ≡ b) (b < a)) e (ranks a b)
 
 not_equal : (o : Ordering) → (o ≡ Equal → ⊥) → false ≡ is_eq o
@@ -56,9 +56,9 @@ module _ (u v : View) (xs ys : List ℕ) (front : prefix_of (view_bytes u) ≡ p
   -- the tails decide where they differ
   pub by_tail : (p q : ℕ) (r : Ordering) → p ≡ number_from_digits 256 (drop 8 (view_bytes u)) → q ≡ number_from_digits 256 (drop 8 (view_bytes v)) → MatchOrdering r (p < q) (p ≡ q) (q < p) → (r ≡ Equal → ⊥) → r ≡ byte_order xs ys
   by_tail p q r is-p is-q h n =
-      let tails : rank (number_from_digits 256 (drop 8 (view_bytes u))) (number_from_digits 256 (drop 8 (view_bytes v))) ≡ lexed (drop 8 (view_bytes u)) (drop 8 (view_bytes v)) =
+      let tails : nat_cmp (number_from_digits 256 (drop 8 (view_bytes u))) (number_from_digits 256 (drop 8 (view_bytes v))) ≡ lexed (drop 8 (view_bytes u)) (drop 8 (view_bytes v)) =
       numbers (drop 8 (view_bytes u)) (drop 8 (view_bytes v)) (under_tail u) (under_tail v) (length_tail u ∙ sym (length_tail v)) in
-      let is : r ≡ lexed (window 12 xs) (window 12 ys) = rank_says p q r h ∙ ap₂ rank is-p is-q ∙ tails ∙ sym whole_words in
+      let is : r ≡ lexed (window 12 xs) (window 12 ys) = rank_says p q r h ∙ ap₂ nat_cmp is-p is-q ∙ tails ∙ sym whole_words in
       is ∙ sym (lex_differ 12 xs ys (λ e. n (is ∙ e))) ∙ sym (by_lex xs ys)
 
   -- where they tie, the first twelve bytes are one
@@ -69,7 +69,7 @@ module _ (u v : View) (xs ys : List ℕ) (front : prefix_of (view_bytes u) ≡ p
 
 -- then the lengths decide
 pub by_size : (xs ys : List ℕ) (a b : ℕ) (r : Ordering) → MatchOrdering r (a < b) (a ≡ b) (b < a) → a ≡ length xs → b ≡ length ys → window 12 xs ≡ window 12 ys → length xs ≤ 12 → r ≡ byte_order xs ys
-by_size xs ys a b r k is-a is_b e h = rank_says a b r k ∙ ap₂ rank is-a is_b ∙ sym (lex_tie 12 xs ys e h) ∙ sym (by_lex xs ys)
+by_size xs ys a b r k is-a is_b e h = rank_says a b r k ∙ ap₂ nat_cmp is-a is_b ∙ sym (lex_tie 12 xs ys e h) ∙ sym (by_lex xs ys)
 
 -- ---- two views, and the values that their words tell of
 
@@ -86,7 +86,7 @@ module _ (u v : View) (xs ys : List ℕ) (us : Words (view_bytes u) xs) (vs : Wo
 
   -- ---- the first four bytes
 
-  prefix_words : rank (number_from_digits 256 (prefix_of (view_bytes u))) (number_from_digits 256 (prefix_of (view_bytes v))) ≡ lexed (window 4 xs) (window 4 ys)
+  prefix_words : nat_cmp (number_from_digits 256 (prefix_of (view_bytes u))) (number_from_digits 256 (prefix_of (view_bytes v))) ≡ lexed (window 4 xs) (window 4 ys)
   prefix_words =
       numbers (prefix_of (view_bytes u)) (prefix_of (view_bytes v)) (under_prefix u) (under_prefix v) (length_prefix u ∙ sym (length_prefix v))
       ∙ ap₂ lexed (sym us.prefixed) (sym vs.prefixed)
@@ -94,7 +94,7 @@ module _ (u v : View) (xs ys : List ℕ) (us : Words (view_bytes u) xs) (vs : Wo
   -- where they differ, they decide
   pub by_prefix : (p q : ℕ) (r : Ordering) → p ≡ number_from_digits 256 (prefix_of (view_bytes u)) → q ≡ number_from_digits 256 (prefix_of (view_bytes v)) → MatchOrdering r (p < q) (p ≡ q) (q < p) → (r ≡ Equal → ⊥) → r ≡ byte_order xs ys
   by_prefix p q r is-p is-q h n =
-      let is : r ≡ lexed (window 4 xs) (window 4 ys) = rank_says p q r h ∙ ap₂ rank is-p is-q ∙ prefix_words in
+      let is : r ≡ lexed (window 4 xs) (window 4 ys) = rank_says p q r h ∙ ap₂ nat_cmp is-p is-q ∙ prefix_words in
       is ∙ sym (lex_differ 4 xs ys (λ e. n (is ∙ e))) ∙ sym (by_lex xs ys)
 
   short_length : size_of (view_bytes u) ≤ 12 → length xs ≤ 12

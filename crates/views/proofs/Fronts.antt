@@ -2,8 +2,7 @@
 use Rattle.std.proofs.Common.{◌≡◌, ℕ, zero, suc, ◌+◌, ◌-◌, ◌*◌, ◌<◌, ◌≤◌, min, Bool, eqb, List, [], ◌∷◌, ◌++◌, length, take, drop, Ordering, Less, Equal, Greater, sym, refl, ap, ◌∙◌, subst, ap₂, true≢false, arith}
 use Rattle.std.proofs.lemmas.List.{take_all, take-append-drop, take-take, drop-take, length-drop, length-take}
 use Rattle.std.proofs.lemmas.Bool.{ne_eqb}
-use Rattle.std.specs.Ordering.{is_eq, is_gt, is_lt, ordering_then, MatchOrdering}
-use Rattle.std.specs.Cmp.{rank}
+use Rattle.std.specs.Ordering.{MatchOrdering, is_eq, is_gt, is_lt, nat_cmp, ordering_then}
 use Rattle.std.specs.Int.Digits.{number_from_digits, AllBelowBase}
 use Rattle.elements.specs.Reading.{le_bytes, pattern_at}
 use Rattle.elements.proofs.LittleEndian.{le_under, pattern_bytes}
@@ -24,7 +23,7 @@ lex_first n xs ys h k d =
     lex_differ n xs ys (λ t. d (sym e ∙ t)) ∙ e
 
 -- where all that both have is one, the lengths decide
-pub lex_common : (n : ℕ) (xs ys : List ℕ) → n ≡ min (length xs) (length ys) → take n xs ≡ take n ys → lexed xs ys ≡ rank (length xs) (length ys)
+pub lex_common : (n : ℕ) (xs ys : List ℕ) → n ≡ min (length xs) (length ys) → take n xs ≡ take n ys → lexed xs ys ≡ nat_cmp (length xs) (length ys)
 lex_common n [] [] e t = sym (rank_eq 0 0 refl)
 lex_common n [] (y ∷ ys) e t = sym (rank_lt 0 (suc (length ys)) (omega arith))
 lex_common n (x ∷ xs) [] e t = sym (rank_gt (suc (length xs)) 0 (omega arith))
@@ -40,7 +39,7 @@ pub by_word : (xs ys : List ℕ) (at p q : ℕ) (r : Ordering) → AllBelowBase 
     → p ≡ number_from_digits 256 (le_bytes 8 (pattern_at 8 xs at)) → q ≡ number_from_digits 256 (le_bytes 8 (pattern_at 8 ys at)) → MatchOrdering r (p < q) (p ≡ q) (q < p)
     → r ≡ byte_order (take 8 (drop at xs)) (take 8 (drop at ys))
 by_word xs ys at p q r u v h k is-p is-q ranked =
-    rank_says p q r ranked ∙ ap₂ rank is-p is-q
+    rank_says p q r ranked ∙ ap₂ nat_cmp is-p is-q
     ∙ numbers (le_bytes 8 (pattern_at 8 xs at)) (le_bytes 8 (pattern_at 8 ys at)) (le_under 8 (pattern_at 8 xs at)) (le_under 8 (pattern_at 8 ys at)) refl
     ∙ ap₂ lexed (pattern_bytes 8 xs at u h) (pattern_bytes 8 ys at v k) ∙ sym (by_lex (take 8 (drop at xs)) (take 8 (drop at ys)))
 

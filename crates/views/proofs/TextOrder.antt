@@ -1,7 +1,7 @@
 -- Texts go bytewise. Assumes nothing.
 use Rattle.std.proofs.Common.{◌≡◌, ℕ, ◌<◌, ◌⊎◌, List, [], ◌∷◌, ◌++◌, Ordering, Less, Equal, Greater, sym, refl, ap, ◌∙◌, subst, ap₂, inl, inr, ⊎_elim, true≢false}
-use Rattle.std.specs.Ordering.{is_lt, ordering_then, MatchOrdering}
-use Rattle.std.specs.Cmp.{rank, ranks}
+use Rattle.std.specs.Ordering.{MatchOrdering, is_lt, nat_cmp, ordering_then}
+use Rattle.std.specs.Cmp.{ranks}
 use Rattle.rows.specs.Laws.{Lawful}
 use Rattle.rows.specs.Row.{order, text}
 use Rattle.rows.proofs.Orders.{stands}
@@ -53,7 +53,7 @@ lex_only : (xs ys : List ℕ) → lexed xs ys ≡ Less → SmallerByte xs ys ⊎
 lex_only [] [] e = absurd (true≢false (sym (ap is_lt e)))
 lex_only [] (y ∷ ys) e = inr (record { y = y; rest = ys; ys_is = refl })
 lex_only (x ∷ xs) [] e = absurd (true≢false (sym (ap is_lt e)))
-lex_only (x ∷ xs) (y ∷ ys) e = heads x y xs ys (rank x y) (ranks x y) e (lex_only xs ys)
+lex_only (x ∷ xs) (y ∷ ys) e = heads x y xs ys (nat_cmp x y) (ranks x y) e (lex_only xs ys)
 
 pub text_order : TextOrder
 text_order = record {

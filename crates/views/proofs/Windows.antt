@@ -1,7 +1,7 @@
 -- Words of windows compare as the byte strings do. Assumes nothing.
 use Rattle.std.proofs.Common.{◌≡◌, ℕ, zero, suc, ◌+◌, ◌*◌, ◌<◌, ◌≤◌, Bool, true, false, List, [], ◌∷◌, ◌++◌, length, get_or, take, drop, Ordering, Less, Equal, Greater, sym, refl, ap, ◌∙◌, subst, true≢false, arith}
-use Rattle.std.specs.Ordering.{is_lt, is_eq, is_gt, ordering_reverse, ordering_then, MatchOrdering}
-use Rattle.std.specs.Cmp.{rank, ranks, nat_cmp_total}
+use Rattle.std.specs.Ordering.{MatchOrdering, is_eq, is_gt, is_lt, nat_cmp, ordering_reverse, ordering_then}
+use Rattle.std.specs.Cmp.{ranks, nat_cmp_total}
 use Rattle.std.specs.Cmp.Lexicographic.{slice_cmp}
 use Rattle.std.specs.Int.Digits.{number_from_digits, number_from_digits_after, AllBelowBase}
 use Rattle.rows.specs.Row.{order, text}
@@ -14,21 +14,21 @@ lexed xs ys = slice_cmp nat_cmp_total xs ys
 pub by_lex : (xs ys : List ℕ) → byte_order xs ys ≡ lexed xs ys
 by_lex xs ys = stands.texts xs ys
 
--- ---- what `rank` answers
+-- ---- what `nat_cmp` answers
 
-pub rank_lt : (a b : ℕ) → a < b → rank a b ≡ Less
+pub rank_lt : (a b : ℕ) → a < b → nat_cmp a b ≡ Less
 rank_lt a b h = sym (nat_cmp_total.says a b Less h)
 
-pub rank_eq : (a b : ℕ) → a ≡ b → rank a b ≡ Equal
+pub rank_eq : (a b : ℕ) → a ≡ b → nat_cmp a b ≡ Equal
 rank_eq a b h = sym (nat_cmp_total.says a b Equal h)
 
-pub rank_gt : (a b : ℕ) → b < a → rank a b ≡ Greater
+pub rank_gt : (a b : ℕ) → b < a → nat_cmp a b ≡ Greater
 rank_gt a b h = sym (nat_cmp_total.says a b Greater h)
 
-pub rank_suc : (a b : ℕ) → rank (suc a) (suc b) ≡ rank a b
-rank_suc a b = go (rank a b) (ranks a b)
+pub rank_suc : (a b : ℕ) → nat_cmp (suc a) (suc b) ≡ nat_cmp a b
+rank_suc a b = go (nat_cmp a b) (ranks a b)
   where
-    go : (o : Ordering) → MatchOrdering o (a < b) (a ≡ b) (b < a) → rank (suc a) (suc b) ≡ o
+    go : (o : Ordering) → MatchOrdering o (a < b) (a ≡ b) (b < a) → nat_cmp (suc a) (suc b) ≡ o
     go Less h = rank_lt (suc a) (suc b) (omega arith)
     go Equal h = rank_eq (suc a) (suc b) (omega arith)
     go Greater h = rank_gt (suc a) (suc b) (omega arith)
@@ -41,20 +41,20 @@ after_lt a b [] (y ∷ ys) u v e h = absurd (omega arith)
 after_lt a b (x ∷ xs) [] u v e h = absurd (omega arith)
 after_lt a b (x ∷ xs) (y ∷ ys) u v e h = after_lt (a * 256 + x) (b * 256 + y) xs ys u.1 v.1 (omega arith) (omega (arith, u.0, v.0))
 
-at_heads : (a x y : ℕ) (xs ys : List ℕ) → AllBelowBase 256 xs → AllBelowBase 256 ys → length xs ≡ length ys → x < 256 → y < 256 → rank (number_from_digits_after 256 (a * 256 + x) xs) (number_from_digits_after 256 (a * 256 + x) ys) ≡ lexed xs ys → (o : Ordering) → MatchOrdering o (x < y) (x ≡ y) (y < x) → rank (number_from_digits_after 256 (a * 256 + x) xs) (number_from_digits_after 256 (a * 256 + y) ys) ≡ ordering_then o (lexed xs ys)
+at_heads : (a x y : ℕ) (xs ys : List ℕ) → AllBelowBase 256 xs → AllBelowBase 256 ys → length xs ≡ length ys → x < 256 → y < 256 → nat_cmp (number_from_digits_after 256 (a * 256 + x) xs) (number_from_digits_after 256 (a * 256 + x) ys) ≡ lexed xs ys → (o : Ordering) → MatchOrdering o (x < y) (x ≡ y) (y < x) → nat_cmp (number_from_digits_after 256 (a * 256 + x) xs) (number_from_digits_after 256 (a * 256 + y) ys) ≡ ordering_then o (lexed xs ys)
 at_heads a x y xs ys u v e hx hy rest Less h = rank_lt _ _ (after_lt (a * 256 + x) (a * 256 + y) xs ys u v e (omega arith))
-at_heads a x y xs ys u v e hx hy rest Equal h = ap (λ z. rank (number_from_digits_after 256 (a * 256 + x) xs) (number_from_digits_after 256 (a * 256 + z) ys)) (sym h) ∙ rest
+at_heads a x y xs ys u v e hx hy rest Equal h = ap (λ z. nat_cmp (number_from_digits_after 256 (a * 256 + x) xs) (number_from_digits_after 256 (a * 256 + z) ys)) (sym h) ∙ rest
 at_heads a x y xs ys u v e hx hy rest Greater h = rank_gt _ _ (after_lt (a * 256 + y) (a * 256 + x) ys xs v u (sym e) (omega arith))
 
-after_rank : (a : ℕ) (xs ys : List ℕ) → AllBelowBase 256 xs → AllBelowBase 256 ys → length xs ≡ length ys → rank (number_from_digits_after 256 a xs) (number_from_digits_after 256 a ys) ≡ lexed xs ys
+after_rank : (a : ℕ) (xs ys : List ℕ) → AllBelowBase 256 xs → AllBelowBase 256 ys → length xs ≡ length ys → nat_cmp (number_from_digits_after 256 a xs) (number_from_digits_after 256 a ys) ≡ lexed xs ys
 after_rank a [] [] u v e = rank_eq a a refl
 after_rank a [] (y ∷ ys) u v e = absurd (omega arith)
 after_rank a (x ∷ xs) [] u v e = absurd (omega arith)
 after_rank a (x ∷ xs) (y ∷ ys) u v e =
     let same : length xs ≡ length ys = omega arith in
-    at_heads a x y xs ys u.1 v.1 same u.0 v.0 (after_rank (a * 256 + x) xs ys u.1 v.1 same) (rank x y) (ranks x y)
+    at_heads a x y xs ys u.1 v.1 same u.0 v.0 (after_rank (a * 256 + x) xs ys u.1 v.1 same) (nat_cmp x y) (ranks x y)
 
-pub numbers : (xs ys : List ℕ) → AllBelowBase 256 xs → AllBelowBase 256 ys → length xs ≡ length ys → rank (number_from_digits 256 xs) (number_from_digits 256 ys) ≡ lexed xs ys
+pub numbers : (xs ys : List ℕ) → AllBelowBase 256 xs → AllBelowBase 256 ys → length xs ≡ length ys → nat_cmp (number_from_digits 256 xs) (number_from_digits 256 ys) ≡ lexed xs ys
 numbers xs ys = after_rank 0 xs ys
 
 pub length_window : (n : ℕ) (xs : List ℕ) → length (window n xs) ≡ n
@@ -82,7 +82,7 @@ left_head y r Greater l rest k = absurd (omega arith)
 differ_left : (n : ℕ) (ys : List ℕ) → (lexed (window n []) (window n ys) ≡ Equal → ⊥) → lexed (window n []) (window n ys) ≡ Less
 differ_left zero ys h = absurd (h refl)
 differ_left (suc n) [] h = absurd (h (lex_itself (window (suc n) [])))
-differ_left (suc n) (y ∷ ys) h = left_head y (lexed (window n []) (window n ys)) (rank 0 y) (ranks 0 y) (differ_left n ys) h
+differ_left (suc n) (y ∷ ys) h = left_head y (lexed (window n []) (window n ys)) (nat_cmp 0 y) (ranks 0 y) (differ_left n ys) h
 
 right_head : (x : ℕ) (r o : Ordering) → MatchOrdering o (x < 0) (x ≡ 0) (0 < x) → ((r ≡ Equal → ⊥) → r ≡ Greater) → (ordering_then o r ≡ Equal → ⊥) → ordering_then o r ≡ Greater
 right_head x r Less l rest k = absurd (omega arith)
@@ -92,7 +92,7 @@ right_head x r Greater l rest k = refl
 differ_right : (n : ℕ) (xs : List ℕ) → (lexed (window n xs) (window n []) ≡ Equal → ⊥) → lexed (window n xs) (window n []) ≡ Greater
 differ_right zero xs h = absurd (h refl)
 differ_right (suc n) [] h = absurd (h (lex_itself (window (suc n) [])))
-differ_right (suc n) (x ∷ xs) h = right_head x (lexed (window n xs) (window n [])) (rank x 0) (ranks x 0) (differ_right n xs) h
+differ_right (suc n) (x ∷ xs) h = right_head x (lexed (window n xs) (window n [])) (nat_cmp x 0) (ranks x 0) (differ_right n xs) h
 
 both_heads : (o t r : Ordering) → ((r ≡ Equal → ⊥) → t ≡ r) → (ordering_then o r ≡ Equal → ⊥) → ordering_then o t ≡ ordering_then o r
 both_heads Less t r rest k = refl
@@ -104,11 +104,11 @@ lex_differ zero xs ys h = absurd (h refl)
 lex_differ (suc n) [] [] h = absurd (h (lex_itself (window (suc n) [])))
 lex_differ (suc n) [] (y ∷ ys) h = sym (differ_left (suc n) (y ∷ ys) h)
 lex_differ (suc n) (x ∷ xs) [] h = sym (differ_right (suc n) (x ∷ xs) h)
-lex_differ (suc n) (x ∷ xs) (y ∷ ys) h = both_heads (rank x y) (lexed xs ys) (lexed (window n xs) (window n ys)) (lex_differ n xs ys) h
+lex_differ (suc n) (x ∷ xs) (y ∷ ys) h = both_heads (nat_cmp x y) (lexed xs ys) (lexed (window n xs) (window n ys)) (lex_differ n xs ys) h
 
 -- ---- windows that tie
 
-pub lex_tie : (n : ℕ) (xs ys : List ℕ) → window n xs ≡ window n ys → length xs ≤ n → lexed xs ys ≡ rank (length xs) (length ys)
+pub lex_tie : (n : ℕ) (xs ys : List ℕ) → window n xs ≡ window n ys → length xs ≤ n → lexed xs ys ≡ nat_cmp (length xs) (length ys)
 lex_tie n [] [] e h = sym (rank_eq 0 0 refl)
 lex_tie n [] (y ∷ ys) e h = sym (rank_lt 0 (suc (length ys)) (omega arith))
 lex_tie n (x ∷ xs) [] e h = sym (rank_gt (suc (length xs)) 0 (omega arith))
@@ -130,7 +130,7 @@ lex_same [] [] e = refl
 lex_same [] (y ∷ ys) e = absurd (true≢false (ap is_lt e))
 lex_same (x ∷ xs) [] e = absurd (true≢false (ap is_gt e))
 lex_same (x ∷ xs) (y ∷ ys) e =
-    let h : (x ≡ y) × (lexed xs ys ≡ Equal) = same_heads x y (lexed xs ys) (rank x y) (ranks x y) e in
+    let h : (x ≡ y) × (lexed xs ys ≡ Equal) = same_heads x y (lexed xs ys) (nat_cmp x y) (ranks x y) e in
     λ i. h.0 i ∷ lex_same xs ys h.1 i
 
 pub same_numbers : (xs ys : List ℕ) → AllBelowBase 256 xs → AllBelowBase 256 ys → length xs ≡ length ys → number_from_digits 256 xs ≡ number_from_digits 256 ys → xs ≡ ys

@@ -2,7 +2,7 @@
 use Rattle.std.specs.Prelude.{◌≡◌, ℕ, zero, suc, ◌<◌, ◌≤◌, ◌⊎◌, List, [], ◌∷◌, ◌++◌, length, ◌≢◌}
 use Rattle.std.specs.declared.cmp.Ordering.TheVariants.{Less, Equal}
 use Rattle.std.specs.declared.cmp.Ordering.{Ordering}
-use Rattle.std.specs.Cmp.{rank}
+use Rattle.std.specs.Ordering.{nat_cmp}
 use Rattle.std.specs.Int.Digits.{number_from_digits, AllBelowBase}
 use Rattle.rows.specs.Laws.{Lawful}
 use Rattle.rows.specs.Row.{order, text}
@@ -49,8 +49,8 @@ word n xs = number_from_digits 256 (window n xs)
 
 pub record Windows : Type 0 where
   -- words are ordered as the windows are
-  pub words : (n : ℕ) (xs ys : List ℕ) → AllBelowBase 256 xs → AllBelowBase 256 ys → rank (word n xs) (word n ys) ≡ byte_order (window n xs) (window n ys)
+  pub words : (n : ℕ) (xs ys : List ℕ) → AllBelowBase 256 xs → AllBelowBase 256 ys → nat_cmp (word n xs) (word n ys) ≡ byte_order (window n xs) (window n ys)
   -- windows that differ decide
   pub differ : (n : ℕ) (xs ys : List ℕ) → (byte_order (window n xs) (window n ys) ≢ Equal) → byte_order xs ys ≡ byte_order (window n xs) (window n ys)
   -- where windows tie and one of the strings fits, it is the other or a beginning of it, so the lengths decide
-  pub tie : (n : ℕ) (xs ys : List ℕ) → window n xs ≡ window n ys → length xs ≤ n → byte_order xs ys ≡ rank (length xs) (length ys)
+  pub tie : (n : ℕ) (xs ys : List ℕ) → window n xs ≡ window n ys → length xs ≤ n → byte_order xs ys ≡ nat_cmp (length xs) (length ys)

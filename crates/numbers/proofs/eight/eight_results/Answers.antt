@@ -1,4 +1,4 @@
-use Rattle.std.proofs.Common.{◌≡◌, ℕ, ◌-◌, Less, Equal, Greater, sym, refl, ap, ◌∙◌}
+use Rattle.std.proofs.Common.{◌≡◌, ℕ, Less, Equal, Greater, sym, refl, ap, ◌∙◌}
 use Rattle.rows.specs.Bits.{bits}
 use Rattle.rows.specs.Row.{Row, order}
 use Rattle.rows.specs.Operators.{holds, Complements}
