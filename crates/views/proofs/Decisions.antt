@@ -3,7 +3,7 @@ use Rattle.std.proofs.Common.{◌≡◌, ℕ, ◌+◌, ◌*◌, ◌/◌, ◌%◌
 use Rattle.std.proofs.lemmas.List.{drop-drop}
 use Rattle.std.proofs.lemmas.Bool.{eqb-true, eq-eqb}
 use Rattle.std.specs.Ordering.{MatchOrdering, is_eq, nat_cmp, ordering_then}
-use Rattle.std.specs.Cmp.{ranks, nat_cmp_total}
+use Rattle.std.specs.Cmp.{ranks, nat_cmp_is}
 use Rattle.std.specs.Int.Digits.{number_from_digits, AllBelowBase}
 use Rattle.elements.specs.Reading.{little_endian}
 use Rattle.views.specs.declared.view.View.{View}
@@ -16,7 +16,7 @@ use Rattle.views.proofs.Windows.{lexed, by_lex, rank_eq, numbers, same_numbers, 
 -- ---- answers
 
 pub rank_says : (a b : ℕ) (r : Ordering) → MatchOrdering r (a < b) (a ≡ b) (b < a) → r ≡ nat_cmp a b
-rank_says a b r h = nat_cmp_total.says a b r h
+rank_says a b r h = nat_cmp_is a b r h
 
 rank_same : (a b : ℕ) → nat_cmp a b ≡ Equal → a ≡ b
 rank_same a b e = subst (λ o. MatchOrdering o (a < b) (a ≡ b) (b < a)) e (ranks a b)

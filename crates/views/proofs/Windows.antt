@@ -1,7 +1,7 @@
 -- Words of windows compare as the byte strings do. Assumes nothing.
 use Rattle.std.proofs.Common.{◌≡◌, ℕ, zero, suc, ◌+◌, ◌*◌, ◌<◌, ◌≤◌, Bool, true, false, List, [], ◌∷◌, ◌++◌, length, get_or, take, drop, Ordering, Less, Equal, Greater, sym, refl, ap, ◌∙◌, subst, true≢false, arith}
 use Rattle.std.specs.Ordering.{MatchOrdering, is_eq, is_gt, is_lt, nat_cmp, ordering_reverse, ordering_then}
-use Rattle.std.specs.Cmp.{ranks, nat_cmp_total}
+use Rattle.std.specs.Cmp.{ranks, nat_cmp_is}
 use Rattle.std.specs.Cmp.Lexicographic.{slice_cmp}
 use Rattle.std.specs.Int.Digits.{number_from_digits, number_from_digits_after, AllBelowBase}
 use Rattle.rows.specs.Row.{order, text}
@@ -9,7 +9,7 @@ use Rattle.rows.proofs.Orders.{stands}
 use Rattle.views.specs.Window.{window, word, byte_order, Windows}
 
 abbrev pub lexed : List ℕ → List ℕ → Ordering
-lexed xs ys = slice_cmp nat_cmp_total xs ys
+lexed xs ys = slice_cmp nat_cmp xs ys
 
 pub by_lex : (xs ys : List ℕ) → byte_order xs ys ≡ lexed xs ys
 by_lex xs ys = stands.texts xs ys
@@ -17,13 +17,13 @@ by_lex xs ys = stands.texts xs ys
 -- ---- what `nat_cmp` answers
 
 pub rank_lt : (a b : ℕ) → a < b → nat_cmp a b ≡ Less
-rank_lt a b h = sym (nat_cmp_total.says a b Less h)
+rank_lt a b h = sym (nat_cmp_is a b Less h)
 
 pub rank_eq : (a b : ℕ) → a ≡ b → nat_cmp a b ≡ Equal
-rank_eq a b h = sym (nat_cmp_total.says a b Equal h)
+rank_eq a b h = sym (nat_cmp_is a b Equal h)
 
 pub rank_gt : (a b : ℕ) → b < a → nat_cmp a b ≡ Greater
-rank_gt a b h = sym (nat_cmp_total.says a b Greater h)
+rank_gt a b h = sym (nat_cmp_is a b Greater h)
 
 pub rank_suc : (a b : ℕ) → nat_cmp (suc a) (suc b) ≡ nat_cmp a b
 rank_suc a b = go (nat_cmp a b) (ranks a b)

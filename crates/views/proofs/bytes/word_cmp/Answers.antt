@@ -1,3 +1,4 @@
+use Rattle.std.specs.Cmp.{ranked}
 use Rattle.std.proofs.Common.{ap, ◌∙◌, arith}
 use Rattle.std.specs.Int.Digits.{number_from_digits}
 use Rattle.elements.specs.Reading.{le_bytes}
@@ -13,4 +14,4 @@ returns c =
     (under_all xs (λ k. omega (arith, c.type_inv.left k))) (under_all ys (λ k. omega (arith, c.type_inv.right k))) c.requires.left_has c.requires.right_has
     (c.swap_bytes-left_word.ensures ∙ turned_eight c.read.result ∙ ap (λ n. number_from_digits 256 (le_bytes 8 n)) c.read.ensures)
     (c.swap_bytes-right_word.ensures ∙ turned_eight c.read-2.result ∙ ap (λ n. number_from_digits 256 (le_bytes 8 n)) c.read-2.ensures)
-    c.cmp.ensures
+    (ranked _ _ _ c.cmp.ensures)

@@ -12,7 +12,7 @@ loop-i-preserved c =
 pub returns-in_err-check_row : goal.returns-in_err-check_row
 returns-in_err-check_row c =
     let f = row_fault c.args.bytes.now c.args.buffers.now c.args.views c.args.validity in
-    let p = err_from_is_err_and c.from-residual.result c.from-residual.ensures.1 in
+    let p = err_from_is_err_and c.from_residual.result c.from_residual.ensures.1 in
     rw (p.1, p.2) (sym (sym c.loop-i.invariant ∙ first_here f c.loop-i.i c.args.len _ c.loop-i-test.true (sym c.in_err-check_row.ensures)))
 
 pub returns : goal.returns

@@ -22,7 +22,11 @@ pub invariant_of-result : goal.invariant_of-result
 invariant_of-result c =
     let s = c.args.self.now in
     let n = not_null s c.args.i c.requires in
-    (lies s c.args.i c.requires, (c.read_within-view.ensures, (ap is_some (ap (view_fault s.bytes.now s.buffers.now) c.read_within-view.ensures ∙ view_good s c.args.i n.0 n.1), tt)))
+    record {
+      inside = lies s c.args.i c.requires;
+      stands = c.read_within-view.ensures;
+      formed = ap is_some (ap (view_fault s.bytes.now s.buffers.now) c.read_within-view.ensures ∙ view_good s c.args.i n.0 n.1);
+    }
 
 pub returns : goal.returns
 returns c =

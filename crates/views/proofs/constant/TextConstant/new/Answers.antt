@@ -10,4 +10,4 @@ all_of_it : (bs : List ℕ) → take 16 (image_of bs) ≡ image_of bs
 all_of_it bs = ap (λ r. le_bytes 4 (min (length bs) 4294967295) ++ r) (take_all 12 (window 12 bs) (omega (arith, length_window 12 bs)))
 
 pub invariant_of-result : goal.invariant_of-result
-invariant_of-result c = (c.read_within-image.ensures ∙ ap (take 16) c.image_bytes.ensures ∙ all_of_it c.args.bytes.now, tt)
+invariant_of-result c = record { told = c.read_within-image.ensures ∙ ap (take 16) c.image_bytes.ensures ∙ all_of_it c.args.bytes.now }

@@ -21,6 +21,6 @@ returns c =
     let inlined = c.inlined_bytes-inlined.result in
     let long : 12 < size_of w = leb-false (size_of w) 12 c.requires.long in
     let n : start + 4 - start ≡ 4 = omega arith in
-    tested (take 4 inlined) (take (start + 4 - start) (drop start buffer)) c.eq.result (slice_eq-Decides _ _ _ c.eq.ensures)
+    c.eq.ensures
     ∙ ap₂ bytes_eq (four w inlined c.inlined_bytes-inlined.ensures)
     (ap₂ (λ k s. take k (drop s buffer)) n c.offset-start.ensures ∙ sym (take-take 4 (size_of w) (drop (offset_of w) buffer) (omega arith)))
