@@ -1,5 +1,5 @@
 -- Byte strings by their fronts. Assumes nothing.
-use Rattle.std.proofs.Common.{◌≡◌, ℕ, zero, suc, ◌+◌, ◌-◌, ◌*◌, ◌<◌, ◌≤◌, min, Bool, eqb, List, [], ◌∷◌, ◌++◌, length, take, drop, Ordering, Less, Equal, Greater, sym, refl, ap, ◌∙◌, subst, ap₂, true≢false, arith}
+use Rattle.std.proofs.Common.{◌≡◌, ℕ, zero, suc, ◌+◌, ◌-◌, ◌<◌, ◌≤◌, min, Bool, eqb, List, [], ◌∷◌, ◌++◌, length, take, drop, Ordering, Less, Equal, Greater, sym, refl, ap, ◌∙◌, ap₂, true≢false, arith}
 use Rattle.std.proofs.lemmas.List.{take_all, take-append-drop, take-take, drop-take, length-drop, length-take}
 use Rattle.std.proofs.lemmas.Bool.{ne_eqb}
 use Rattle.std.specs.Ordering.{MatchOrdering, is_eq, is_gt, is_lt, nat_cmp, ordering_then}
@@ -9,7 +9,7 @@ use Rattle.elements.proofs.LittleEndian.{le_under, pattern_bytes}
 use Rattle.views.specs.Window.{byte_order, window}
 use Rattle.views.proofs.Decisions.{lex_shared, rank_says, differ_answer}
 use Rattle.views.proofs.Faults.{window_take}
-use Rattle.views.proofs.Windows.{lexed, by_lex, lex_differ, lex_same, lex_itself, lex_tie, numbers, rank_lt, rank_eq, rank_gt, rank_suc}
+use Rattle.views.proofs.Windows.{lexed, by_lex, lex_differ, lex_same, numbers, rank_lt, rank_eq, rank_gt, rank_suc}
 
 -- fronts that are one leave the order to what follows
 pub lex_front : (k : ℕ) (xs ys : List ℕ) → take k xs ≡ take k ys → lexed xs ys ≡ lexed (drop k xs) (drop k ys)

@@ -1,9 +1,9 @@
 -- Texts go bytewise. Assumes nothing.
-use Rattle.std.proofs.Common.{◌≡◌, ℕ, ◌<◌, ◌⊎◌, List, [], ◌∷◌, ◌++◌, Ordering, Less, Equal, Greater, sym, refl, ap, ◌∙◌, subst, ap₂, inl, inr, ⊎_elim, true≢false}
+use Rattle.std.proofs.Common.{◌≡◌, ℕ, ◌<◌, ◌⊎◌, List, [], ◌∷◌, ◌++◌, Ordering, Less, Equal, Greater, sym, refl, ap, ◌∙◌, ap₂, inl, inr, true≢false}
 use Rattle.std.specs.Ordering.{MatchOrdering, is_lt, nat_cmp, ordering_then}
 use Rattle.std.specs.Cmp.{ranks}
 use Rattle.rows.specs.Laws.{Lawful}
-use Rattle.rows.specs.Row.{order, text}
+use Rattle.rows.specs.Row.{text}
 use Rattle.rows.proofs.Orders.{stands}
 use Rattle.views.specs.Window.{byte_order, Beginning, SmallerByte, TextOrder}
 use Rattle.views.proofs.Decisions.{lex_shared}

@@ -1,5 +1,5 @@
 -- The rows of a column of text or binary values, and their faults. Assumes nothing.
-use Rattle.std.proofs.Common.{◌≡◌, ℕ, zero, suc, ◌+◌, ◌-◌, ◌*◌, ◌<◌, ◌≤◌, min, Bool, true, false, cond, ◌||◌, List, length, is_some, Some, None, Option, sym, refl, ap, ◌∙◌, subst, ap₂, ⊎_elim, true≢false, arith}
+use Rattle.std.proofs.Common.{◌≡◌, ℕ, zero, suc, ◌+◌, ◌-◌, ◌*◌, ◌<◌, ◌≤◌, min, Bool, true, false, cond, ◌||◌, List, length, is_some, Some, None, Option, sym, refl, ap, ◌∙◌, ⊎_elim, true≢false, arith}
 use Rattle.std.proofs.lemmas.List.FromFn.{get_or-map-range_with_len, length-map-range_with_len}
 use Rattle.std.proofs.lemmas.List.{get_or_past}
 use Rattle.std.proofs.lemmas.Bool.{cases_lt, cond-true, cond-false, ltb-false}
@@ -9,7 +9,7 @@ use Rattle.faults.specs.declared.ViewFault.{ViewFault}
 use Rattle.parts.specs.declared.part.Part.{Part}
 use Rattle.parts.specs.declared.validity.Validity.{Validity}
 use Rattle.parts.specs.Parts.{valid_at, too_many, ends_past, validity_past, parts_past}
-use Rattle.rows.specs.Row.{Row, is_null, null, text, row}
+use Rattle.rows.specs.Row.{is_null, null, text, row}
 use Rattle.views.specs.Column.{rows_of}
 use Rattle.views.specs.declared.column.ViewColumn.{ViewColumn}
 use Rattle.views.specs.View.{value_of, view_fault}

@@ -1,4 +1,4 @@
-use Rattle.std.proofs.Common.{◌≡◌, eqb, sym, ◌∙◌, ap₂, arith}
+use Rattle.std.proofs.Common.{eqb, sym, ◌∙◌, ap₂, arith}
 use Rattle.std.proofs.lemmas.Bool.{eqb-true}
 use Rattle.views.proofs.Decisions.{by_head}
 use Rattle.views.proofs.shortcuts.same_head.Goals as goal

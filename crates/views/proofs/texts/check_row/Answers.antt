@@ -1,4 +1,4 @@
-use Rattle.std.proofs.Common.{◌≡◌, sym, ap, ◌∙◌}
+use Rattle.std.proofs.Common.{sym, ap, ◌∙◌}
 use Rattle.views.specs.View.{view_fault}
 use Rattle.views.specs.Texts.{with_row}
 use Rattle.views.proofs.TextRows.{fault_null, fault_valid}

@@ -1,5 +1,4 @@
-use Rattle.std.proofs.Common.{◌≡◌, ℕ, length, Option, sym, ap, ◌∙◌}
-use Rattle.faults.specs.declared.ColumnFault.{ColumnFault}
+use Rattle.std.proofs.Common.{◌≡◌, length, sym, ap, ◌∙◌}
 use Rattle.views.specs.Column.{rows_of}
 use Rattle.views.specs.Texts.{rows_standing}
 use Rattle.views.specs.declared.column.ViewColumn.{ViewColumn}

@@ -1,4 +1,4 @@
-use Rattle.std.proofs.Common.{◌≡◌, ℕ, ◌+◌, ◌*◌, ◌<◌, ◌≤◌, false, length, is_some, sym, ap, ◌∙◌, arith}
+use Rattle.std.proofs.Common.{◌≡◌, ℕ, ◌+◌, ◌*◌, ◌≤◌, false, length, is_some, sym, ap, ◌∙◌, arith}
 use Rattle.rows.specs.Row.{is_null, row, text}
 use Rattle.views.specs.Column.{rows_of}
 use Rattle.views.specs.View.{value_of, view_fault}

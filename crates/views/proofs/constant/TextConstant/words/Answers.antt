@@ -1,11 +1,10 @@
-use Rattle.std.proofs.Common.{◌≡◌, ℕ, ◌^◌, ◌<◌, ◌≤◌, min, List, length, take, drop, sym, refl, ap, ◌∙◌, arith}
+use Rattle.std.proofs.Common.{◌≡◌, ℕ, min, List, length, take, drop, sym, refl, ap, ◌∙◌, arith}
 use Rattle.elements.specs.Reading.{little_endian}
 use Rattle.elements.proofs.LittleEndian.{le_value}
 use Rattle.views.specs.Image.{image_of}
 use Rattle.views.specs.View.{prefix_of, size_of, view_bytes}
 use Rattle.views.specs.Window.{window}
-use Rattle.views.specs.Words.{Whole, Words}
-use Rattle.views.specs.declared.constant.TextConstant.{TextConstant}
+use Rattle.views.specs.Words.{Whole}
 use Rattle.views.proofs.Faults.{window_shorter}
 use Rattle.views.proofs.constant.TextConstant.words.Goals as goal
 

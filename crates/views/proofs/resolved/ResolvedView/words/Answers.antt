@@ -1,6 +1,6 @@
-use Rattle.std.proofs.Common.{◌≡◌, ◌%◌, ◌<◌, ◌≤◌, length, sym, refl, ap, ◌∙◌, mod-lt, arith}
+use Rattle.std.proofs.Common.{◌≡◌, ◌%◌, ◌<◌, ◌≤◌, length, sym, refl, mod-lt, arith}
 use Rattle.views.specs.Resolved.{value}
-use Rattle.views.specs.View.{size_of, value_of, view_bytes, view_fault}
+use Rattle.views.specs.View.{size_of, view_bytes, view_fault}
 use Rattle.views.specs.Words.{Words}
 use Rattle.views.specs.declared.resolved.ResolvedView.{ResolvedView}
 use Rattle.views.proofs.Faults.{words_of, value_length}
