@@ -1,5 +1,5 @@
 -- Outputs that hold a collection and nothing else. Assumes nothing.
-use Rattle.std.proofs.Common.{◌≡◌, ℕ, zero, suc, ◌*◌, List, [], ◌∷◌, ◌++◌, length, take, drop, replicate, pos, Some, sym, refl, ap, ◌∙◌, ap₂, append-nil, arith}
+use Rattle.std.proofs.Common.{◌≡◌, ℕ, zero, suc, ◌*◌, List, ◌∷◌, ◌++◌, length, take, drop, replicate, pos, Some, sym, refl, ap, ◌∙◌, ap₂, append-nil, arith}
 use Rattle.std.proofs.lemmas.List.{drop_all, take_at}
 use Rattle.elements.specs.declared.ptype.PType.TheVariants.{U64}
 use Rattle.numbers.specs.declared.validity.Validity.TheVariants.{Bitmap}

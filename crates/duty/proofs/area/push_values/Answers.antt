@@ -9,7 +9,7 @@ pub loop-count-preserved : goal.loop-count-preserved
 loop-count-preserved c =
     let counts = c.args.counts.now in
     let before = vec_items c.args.bytes.now in
-    let i = c.loop-count.count_index in
+    let i = c.loop-count.count-index in
     let count = get_or counts i None in
     let eight : c.to_le_bytes.result ≡ count_bytes count = c.to_le_bytes.ensures ∙ eight_bytes c.unwrap_or-value.result ∙ ap (le_bytes 8) c.unwrap_or-value.ensures in (
       c.in_ok-extend_from_slice.ensures.items ∙ ap₂ ◌++◌ c.loop-count.invariant.0 eight

@@ -1,7 +1,7 @@
-use Rattle.std.proofs.Common.{◌≡◌, ◌+◌, true, cond, eqb, get_or, drop, Some, None, sym, ap, ◌∙◌, arith}
+use Rattle.std.proofs.Common.{◌+◌, eqb, get_or, drop, Some, sym, ◌∙◌}
 use Rattle.std.proofs.lemmas.List.{at_drop_more, at_drop_all}
 use Rattle.std.proofs.lemmas.Bool.{cond-true, cond-false, eq-eqb, ne_eqb}
-use Rattle.duty.specs.Files.{place, place_from}
+use Rattle.duty.specs.Files.{place_from}
 use Rattle.duty.proofs.file.find_byte.Goals as goal
 
 pub returns-then-x-b : goal.returns-then-x-b
