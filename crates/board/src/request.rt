@@ -58,11 +58,11 @@ pub(crate) fn read_request(rt: &HostRuntime) -> anyhow::Result<Request> {
 // Prints where the fault is, and gives up.
 fn refuse(rt: &HostRuntime, path: &str, fault: FileFault) -> anyhow::Error {
     match fault {
-        FileFault::Memory => "no memory is left".into(),
+        FileFault::Memory => anyhow!("no memory is left"),
         FileFault::Line { number, fault } => {
             let what = fault.text();
             let _ = eprintln!(rt; "{path}:{number}: {what}");
-            "the board is not read".into()
+            anyhow!("the board is not read")
         }
     }
 }

@@ -1,4 +1,4 @@
-use Rattle.std.proofs.Common.{◌≡◌, ◌++◌, drop, None, Ok, ap, ◌∙◌}
+use Rattle.std.proofs.Common.{◌++◌, drop, Ok, ap, ◌∙◌}
 use Rattle.rows.specs.Collected.{collected}
 use Rattle.rows.proofs.Collections.{grants}
 use Rattle.numbers.specs.Columns.{number_rows}
