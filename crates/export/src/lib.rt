@@ -1,4 +1,4 @@
-// A C interface for the static library: two number columns of one kind in one data area.
+// Two number columns of one kind in one data area, compared in one call of plain numbers and slices. The crate export_c offers it to C.
 #![tactic(auto)]
 
 ghost use Rattle.std.specs.Prelude.{◌≡◌, length, Some, None};
@@ -17,7 +17,7 @@ use rows::collector::collect_ordering_bits;
 use rows::fixed::FixedRow;
 use rows::operator::CompareOperator;
 
-mod texts;
+pub mod texts;
 
 // The operators by their codes: Eq, NotEq, Gt, Gte, Lt and Lte are 0 to 5.
 fn operator(code: u8) -> CompareOperator
@@ -95,8 +95,7 @@ fn run<'a, K: ElementKind>(
 // Bit i of the output is the operator of the order of left row i and right row i, or of right row 0 where `fixed` is set.
 // Each column has `len` elements of the kind with the code `ptype`, from its start on; where `nullable` is set it has a bitmap.
 // Answers 0, or the number of the refusal, which leaves the output as it was.
-#[unsafe(no_mangle)]
-pub extern "C" fn compare_numbers(
+pub fn compare_numbers(
     bytes: &[u8],
     ptype: u64,
     left: usize,

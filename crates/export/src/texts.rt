@@ -1,4 +1,4 @@
-// Text columns behind the C interface.
+// Text columns, compared in one call.
 use crate::operator;
 use faults::CollectFault;
 use parts::part::Part;
@@ -87,8 +87,7 @@ fn run_texts<'a>(
 // Bit i of the output is the operator of the order of left row i and right row i, or of right row 0 where `fixed` is set.
 // Each column has `len` views, from its start on, over one buffer; where `nullable` is set it has a bitmap.
 // Answers 0, or the number of the refusal, which leaves the output as it was.
-#[unsafe(no_mangle)]
-pub extern "C" fn compare_views(
+pub fn compare_views(
     bytes: &[u8],
     buffer: usize,
     buffer_len: usize,
