@@ -38,21 +38,21 @@ abbrev pub right_rows : PType → List ℕ → ℕ → Validity → Bool → ℕ
 right_rows p bytes right validity fixed n = right_list fixed n (number_rows p bytes right validity n)
 
 abbrev pub exported : PType → List ℕ → ℕ → Validity → ℕ → Validity → Bool → ℕ → ℕ → ℕ
-exported p bytes left left-validity right right-validity fixed n room =
-    answer (number_fault (width_of p) bytes left left-validity n) (number_fault (width_of p) bytes right right-validity n)
-    (collection (number_rows p bytes left left-validity n) (right_rows p bytes right right-validity fixed n) n room)
+exported p bytes left left_validity right right_validity fixed n room =
+    answer (number_fault (width_of p) bytes left left_validity n) (number_fault (width_of p) bytes right right_validity n)
+    (collection (number_rows p bytes left left_validity n) (right_rows p bytes right right_validity fixed n) n room)
 
 -- the output after an answer: as it was, where that is a refusal
 abbrev pub filled : PType → List ℕ → ℕ → Validity → ℕ → Validity → CompareOperator → Bool → ℕ → ℕ → List ℕ → List ℕ
-filled p bytes left left-validity right right-validity op fixed n r out =
-    cond (r == 0) (collected (number_rows p bytes left left-validity n) (right_rows p bytes right right-validity fixed n) op n ++ drop (bytes_for n) out) out
+filled p bytes left left_validity right right_validity op fixed n r out =
+    cond (r == 0) (collected (number_rows p bytes left left_validity n) (right_rows p bytes right right_validity fixed n) op n ++ drop (bytes_for n) out) out
 
 -- ---- the kind by its code
 
 abbrev pub exported_by : Result PType ColumnFault → List ℕ → ℕ → Validity → ℕ → Validity → Bool → ℕ → ℕ → ℕ
-exported_by (Err f) bytes left left-validity right right-validity fixed n room = column_number f
-exported_by (Ok p) bytes left left-validity right right-validity fixed n room = exported p bytes left left-validity right right-validity fixed n room
+exported_by (Err f) bytes left left_validity right right_validity fixed n room = column_number f
+exported_by (Ok p) bytes left left_validity right right_validity fixed n room = exported p bytes left left_validity right right_validity fixed n room
 
 abbrev pub filled_by : Result PType ColumnFault → List ℕ → ℕ → Validity → ℕ → Validity → CompareOperator → Bool → ℕ → ℕ → List ℕ → List ℕ
-filled_by (Err f) bytes left left-validity right right-validity op fixed n r out = out
-filled_by (Ok p) bytes left left-validity right right-validity op fixed n r out = filled p bytes left left-validity right right-validity op fixed n r out
+filled_by (Err f) bytes left left_validity right right_validity op fixed n r out = out
+filled_by (Ok p) bytes left left_validity right right_validity op fixed n r out = filled p bytes left left_validity right right_validity op fixed n r out

@@ -36,20 +36,20 @@ row_eq false false x y = refl
 
 -- ---- eight rows
 
-module _ (v w : ℕ) (v-fits : v < 2 ^ 8) (w_Fits : w < 2 ^ 8) (x y : ℕ → ℤ) (e : ℕ) where
+module _ (v w : ℕ) (v_fits : v < 2 ^ 8) (w_fits : w < 2 ^ 8) (x y : ℕ → ℤ) (e : ℕ) where
   -- null on the left, or so by the keys
   null_or : (f : ℕ → Bool) → e ≡ bits f 0 8 → bit_or (255 - v) e ≡ bits (λ b. not (bit v b) || f b) 0 8
-  null_or f h = ap₂ bit_or (ap (λ z. 255 - z) (sym (bits_of v 8 v-fits)) ∙ bits_not (bit v) 0) h ∙ bits_or (λ b. not (bit v b)) f 0 8
+  null_or f h = ap₂ bit_or (ap (λ z. 255 - z) (sym (bits_of v 8 v_fits)) ∙ bits_not (bit v) 0) h ∙ bits_or (λ b. not (bit v b)) f 0 8
 
   pub lesser : e ≡ bits (λ b. is_lt (int_cmp (x b) (y b))) 0 8 → bit_and w (bit_or (255 - v) e) ≡ bits (λ b. is_lt (order (eighth v x b) (eighth w y b))) 0 8
   lesser h =
-      ap₂ bit_and (sym (bits_of w 8 w_Fits)) (null_or (λ b. is_lt (int_cmp (x b) (y b))) h)
+      ap₂ bit_and (sym (bits_of w 8 w_fits)) (null_or (λ b. is_lt (int_cmp (x b) (y b))) h)
       ∙ bits_and (bit w) (λ b. not (bit v b) || is_lt (int_cmp (x b) (y b))) 0 8
       ∙ bits_same _ _ 0 0 8 (λ b l. row_lt (bit v (0 + b)) (bit w (0 + b)) (x (0 + b)) (y (0 + b)))
 
   pub equal : e ≡ bits (λ b. is_eq (int_cmp (x b) (y b))) 0 8 → bit_and (255 - bit_xor v w) (bit_or (255 - v) e) ≡ bits (λ b. is_eq (order (eighth v x b) (eighth w y b))) 0 8
   equal h =
-      let both : bit_xor v w ≡ bits (λ b. cond (bit v b) (not (bit w b)) (bit w b)) 0 8 = ap₂ bit_xor (sym (bits_of v 8 v-fits)) (sym (bits_of w 8 w_Fits)) ∙ bits_xor (bit v) (bit w) 0 8 in
+      let both : bit_xor v w ≡ bits (λ b. cond (bit v b) (not (bit w b)) (bit w b)) 0 8 = ap₂ bit_xor (sym (bits_of v 8 v_fits)) (sym (bits_of w 8 w_fits)) ∙ bits_xor (bit v) (bit w) 0 8 in
       ap₂ bit_and (ap (λ z. 255 - z) both ∙ bits_not (λ b. cond (bit v b) (not (bit w b)) (bit w b)) 0) (null_or (λ b. is_eq (int_cmp (x b) (y b))) h)
       ∙ bits_and (λ b. not (cond (bit v b) (not (bit w b)) (bit w b))) (λ b. not (bit v b) || is_eq (int_cmp (x b) (y b))) 0 8
       ∙ bits_same _ _ 0 0 8 (λ b l. row_eq (bit v (0 + b)) (bit w (0 + b)) (x (0 + b)) (y (0 + b)))

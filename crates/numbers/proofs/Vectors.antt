@@ -2,7 +2,7 @@
 use Rattle.std.proofs.Common.{◌≡◌, ℕ, zero, suc, ◌+◌, ◌-◌, ◌*◌, ◌/◌, ◌%◌, ◌^◌, ◌<◌, ◌≤◌, Bool, true, false, cond, ltb, ◌⊎◌, List, [], ◌∷◌, map, length, get_or, take, drop, ℤ, pos, ◌+ℤ◌, ◌-ℤ◌, sym, refl, ap, ◌∙◌, subst, ap₂, inl, inr, ⊎_elim, mod-eq_of_lt, mul-one, mul-add, arith, w8, w32, Fits, rules}
 use lib.Bits.{bit_xor, xor_zero_l, xor_zero_r, xor_self, xor_block, xor_lt}
 use lib.Lanes.{zip2, mask_l, top, chunk, digits_l, number_l, Each1}
-use mir.Val.{bits as width-bits, hbits}
+use mir.Val.{bits as width_bits, hbits}
 use Rattle.std.proofs.lemmas.Nat.{mul-le, pow-add, pow_pos, mod_below, shr_below}
 use Rattle.std.proofs.lemmas.List.FromFn.{fill_by_all, get_or-map-range_with_len}
 use Rattle.std.proofs.lemmas.Simd.{tops_compared, mask_l-mod, length-zip2, get_or-zip2, get_or-chunk, get_or_wider, length-chunk, chunk-fits, below_from_Fits}
@@ -36,11 +36,11 @@ bits_mask (m ∷ ms) =
 -- the mask of a comparison t of two vectors
 pub mask_bits : (t : ℕ → ℕ → Bool) (xs ys : List ℕ) (f : ℕ → Bool) → length xs ≡ 8 → length ys ≡ 8
     → ((b : ℕ) → b < 8 → t (get_or xs b 0) (get_or ys b 0) ≡ f b)
-    → mask_l (map (top (hbits w32)) (zip2 (λ a b. cond (t a b) (2 ^ width-bits w32 - 1) 0) xs ys)) % 2 ^ 64 % 256 ≡ bits f 0 8
+    → mask_l (map (top (hbits w32)) (zip2 (λ a b. cond (t a b) (2 ^ width_bits w32 - 1) 0) xs ys)) % 2 ^ 64 % 256 ≡ bits f 0 8
 mask_bits t xs ys f hx hy h =
     let ms = zip2 t xs ys in
     let long : length ms ≡ 8 = length-zip2 t xs ys (hx ∙ sym hy) ∙ hx in
-    let mask : mask_l (map (top (hbits w32)) (zip2 (λ a b. cond (t a b) (2 ^ width-bits w32 - 1) 0) xs ys)) ≡ mask_l ms = ap mask_l (tops_compared w32 t xs ys) in
+    let mask : mask_l (map (top (hbits w32)) (zip2 (λ a b. cond (t a b) (2 ^ width_bits w32 - 1) 0) xs ys)) ≡ mask_l ms = ap mask_l (tops_compared w32 t xs ys) in
     let low : mask_l ms % 2 ^ 64 ≡ mask_l ms = mask_l-mod ms 64 (omega arith) in
     let byte : mask_l ms % 2 ^ 8 ≡ mask_l ms = mask_l-mod ms 8 (omega arith) in
     ap (λ z. z % 2 ^ 64 % 256) mask ∙ ap (λ z. z % 256) low ∙ byte ∙ bits_mask ms ∙ ap (bits (λ i. get_or ms i false) 0) long

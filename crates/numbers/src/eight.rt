@@ -116,8 +116,8 @@ pub(crate) fn eight_results<O: FixedOperator, P: EightPairs>(
     right_valid: u8,
     pairs: &P,
 ) -> u8
-    requires { P.EightPairs.within pairs.now }
-    ensures { result ≡ bits (λ b. holds O.means (order (eighth left_valid (P.EightPairs.left pairs.now) b) (eighth right_valid (P.EightPairs.right pairs.now) b))) 0 8 }
+    requires { P.within pairs.now }
+    ensures { result ≡ bits (λ b. holds O.means (order (eighth left_valid (P.left pairs.now) b) (eighth right_valid (P.right pairs.now) b))) 0 8 }
 {
     match O::operator() {
         CompareOperator::Eq => equal_rows(left_valid, right_valid, pairs.alike()),

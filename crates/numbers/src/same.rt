@@ -21,8 +21,8 @@ fn lower<O: FixedOperator, K: ElementKind, S: Spread, T: Spread>(
     right: &Eight<T>,
 ) -> u8
     requires left_within { LieIn (width_of K.kind) left.now.bytes.now left.now.start S.fixed }
-    requires right_within { LieIn (width_of K.kind) right.now.bytes.now right.now.start T.Spread.fixed }
-    ensures { result ≡ bits (λ b. is_lt (int_cmp (element_key K.kind left.now.bytes.now left.now.start S.fixed b) (element_key K.kind right.now.bytes.now right.now.start T.Spread.fixed b))) 0 8 }
+    requires right_within { LieIn (width_of K.kind) right.now.bytes.now right.now.start T.fixed }
+    ensures { result ≡ bits (λ b. is_lt (int_cmp (element_key K.kind left.now.bytes.now left.now.start S.fixed b) (element_key K.kind right.now.bytes.now right.now.start T.fixed b))) 0 8 }
 {
     if K::element_width() < 8 {
         let left = ranks::<K, S>(left.bytes, left.start);
@@ -37,8 +37,8 @@ fn lower<O: FixedOperator, K: ElementKind, S: Spread, T: Spread>(
 // The pairs whose patterns are one: their keys are, and those of no others.
 fn one_pattern<K: ElementKind, S: Spread, T: Spread>(left: &Eight<S>, right: &Eight<T>) -> u8
     requires left_within { LieIn (width_of K.kind) left.now.bytes.now left.now.start S.fixed }
-    requires right_within { LieIn (width_of K.kind) right.now.bytes.now right.now.start T.Spread.fixed }
-    ensures { result ≡ bits (λ b. is_eq (int_cmp (element_key K.kind left.now.bytes.now left.now.start S.fixed b) (element_key K.kind right.now.bytes.now right.now.start T.Spread.fixed b))) 0 8 }
+    requires right_within { LieIn (width_of K.kind) right.now.bytes.now right.now.start T.fixed }
+    ensures { result ≡ bits (λ b. is_eq (int_cmp (element_key K.kind left.now.bytes.now left.now.start S.fixed b) (element_key K.kind right.now.bytes.now right.now.start T.fixed b))) 0 8 }
 {
     if K::element_width() < 8 {
         let left = patterns::<K, S>(left.bytes, left.start);
@@ -61,9 +61,9 @@ pub(crate) struct SameKind<'a, O, K, T> {
 impl<'a, O: FixedOperator, K: ElementKind, T: Spread> EightPairs for SameKind<'a, O, K, T> {
     ghost left = { λ s. element_key K.kind s.left.bytes.now s.left.start false };
 
-    ghost right = { λ s. element_key K.kind s.right.bytes.now s.right.start T.Spread.fixed };
+    ghost right = { λ s. element_key K.kind s.right.bytes.now s.right.start T.fixed };
 
-    ghost within = { λ s. LieIn (width_of K.kind) s.left.bytes.now s.left.start false × LieIn (width_of K.kind) s.right.bytes.now s.right.start T.Spread.fixed };
+    ghost within = { λ s. LieIn (width_of K.kind) s.left.bytes.now s.left.start false × LieIn (width_of K.kind) s.right.bytes.now s.right.start T.fixed };
 
     fn below(&self) -> u8 {
         lower::<O, K, Beside, T>(&self.left, &self.right)
@@ -86,8 +86,8 @@ pub(crate) fn element_results<'e, O: FixedOperator, L: ElementKind, R: ElementKi
     right: Eight<'e, T>,
 ) -> u8
     requires left_within { LieIn (width_of L.kind) left.bytes.now left.start false }
-    requires right_within { LieIn (width_of R.kind) right.bytes.now right.start T.Spread.fixed }
-    ensures { result ≡ bits (λ b. holds O.means (order (eighth left_valid (element_key L.kind left.entry.bytes.now left.entry.start false) b) (eighth right_valid (element_key R.kind right.entry.bytes.now right.entry.start T.Spread.fixed) b))) 0 8 }
+    requires right_within { LieIn (width_of R.kind) right.bytes.now right.start T.fixed }
+    ensures { result ≡ bits (λ b. holds O.means (order (eighth left_valid (element_key L.kind left.entry.bytes.now left.entry.start false) b) (eighth right_valid (element_key R.kind right.entry.bytes.now right.entry.start T.fixed) b))) 0 8 }
 {
     if L::element_type() == R::element_type() {
         let kind: PhantomData<(O, L)> = PhantomData;

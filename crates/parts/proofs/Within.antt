@@ -17,7 +17,7 @@ none (suc n) = refl
 
 -- what the data has of a part, however far the part goes
 pub clipped : (bytes : List ℕ) (p : Part) (a b n : ℕ) → a ≡ min p.start (length bytes) → b ≡ min p.len (length bytes - a) → n ≡ b → take n (drop a bytes) ≡ part_bytes bytes p
-clipped bytes p a b n is-a is_b is-n = by (cases_lt p.start (length bytes))
+clipped bytes p a b n is_a is_b is_n = by (cases_lt p.start (length bytes))
   where
     near : p.start < length bytes → take n (drop a bytes) ≡ part_bytes bytes p
     near h =

@@ -18,7 +18,7 @@ fn check_two<C: RowComparator, D: RowComparator>(
     first_room: usize,
     second_room: usize,
 ) -> Result<usize, CollectFault>
-    ensures { result ≡ first_refusal (collection (C.left first.now) (C.right first.now) len first_room) (collection (D.RowComparator.left second.now) (D.RowComparator.right second.now) len second_room) }
+    ensures { result ≡ first_refusal (collection (C.left first.now) (C.right first.now) len first_room) (collection (D.left second.now) (D.right second.now) len second_room) }
 {
     check_collection(first, len, first_room)?;
     check_collection(second, len, second_room)
@@ -34,10 +34,10 @@ pub fn collect_both_ways<C: RowComparator, D: RowComparator>(
     out: &mut [u8],
     back: &mut [u8],
 ) -> Result<usize, CollectFault>
-    ensures answers { result ≡ first_refusal (collection (C.left forward.now) (C.right forward.now) len (length out.old)) (collection (D.RowComparator.left backward.now) (D.RowComparator.right backward.now) len (length back.old)) }
+    ensures answers { result ≡ first_refusal (collection (C.left forward.now) (C.right forward.now) len (length out.old)) (collection (D.left backward.now) (D.right backward.now) len (length back.old)) }
     ensures writes { out.new ≡ written result (collected (C.left forward.now) (C.right forward.now) op len) out.old }
-    ensures writes_back { back.new ≡ written result (collected (D.RowComparator.left backward.now) (D.RowComparator.right backward.now) (swapped op) len) back.old }
-    ensures law { D.RowComparator.left backward.now ≡ C.right forward.now → D.RowComparator.right backward.now ≡ C.left forward.now → is_ok result ≡ true → SameBytes len out.new back.new }
+    ensures writes_back { back.new ≡ written result (collected (D.left backward.now) (D.right backward.now) (swapped op) len) back.old }
+    ensures law { D.left backward.now ≡ C.right forward.now → D.right backward.now ≡ C.left forward.now → is_ok result ≡ true → SameBytes len out.new back.new }
 {
     let size = check_two(forward, backward, len, out.len(), back.len())?;
     let _ = collect_ordering_bits(forward, op, len, out);
@@ -56,11 +56,11 @@ pub fn collect_chain<C: RowComparator, D: RowComparator, E: RowComparator>(
     second_out: &mut [u8],
     across_out: &mut [u8],
 ) -> Result<usize, CollectFault>
-    ensures answers { result ≡ first_refusal (collection (C.left first.now) (C.right first.now) len (length first_out.old)) (first_refusal (collection (D.RowComparator.left second.now) (D.RowComparator.right second.now) len (length second_out.old)) (collection (E.RowComparator.left across.now) (E.RowComparator.right across.now) len (length across_out.old))) }
+    ensures answers { result ≡ first_refusal (collection (C.left first.now) (C.right first.now) len (length first_out.old)) (first_refusal (collection (D.left second.now) (D.right second.now) len (length second_out.old)) (collection (E.left across.now) (E.right across.now) len (length across_out.old))) }
     ensures writes_first { first_out.new ≡ written result (collected (C.left first.now) (C.right first.now) CompareOperator.Lte len) first_out.old }
-    ensures writes_second { second_out.new ≡ written result (collected (D.RowComparator.left second.now) (D.RowComparator.right second.now) CompareOperator.Lte len) second_out.old }
-    ensures writes_across { across_out.new ≡ written result (collected (E.RowComparator.left across.now) (E.RowComparator.right across.now) CompareOperator.Lte len) across_out.old }
-    ensures law { C.right first.now ≡ D.RowComparator.left second.now → E.RowComparator.left across.now ≡ C.left first.now → E.RowComparator.right across.now ≡ D.RowComparator.right second.now → is_ok result ≡ true → GoesOn len first_out.new second_out.new across_out.new }
+    ensures writes_second { second_out.new ≡ written result (collected (D.left second.now) (D.right second.now) CompareOperator.Lte len) second_out.old }
+    ensures writes_across { across_out.new ≡ written result (collected (E.left across.now) (E.right across.now) CompareOperator.Lte len) across_out.old }
+    ensures law { C.right first.now ≡ D.left second.now → E.left across.now ≡ C.left first.now → E.right across.now ≡ D.right second.now → is_ok result ≡ true → GoesOn len first_out.new second_out.new across_out.new }
 {
     check_two(first, second, len, first_out.len(), second_out.len())?;
     let size = check_collection(across, len, across_out.len())?;

@@ -12,7 +12,7 @@ pub trait Results {
 
 // The first `count` results, at most eight, in a byte: bit k is result k, and the bits above are 0.
 pub fn pack<R: Results>(results: &R, count: usize) -> u8
-    ensures { result ≡ bits (R.Results.told results.now) 0 (min count 8) }
+    ensures { result ≡ bits (R.told results.now) 0 (min count 8) }
 {
     let mut byte = 0u8;
     for k in 0..count.min(8) {

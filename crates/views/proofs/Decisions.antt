@@ -38,9 +38,9 @@ lex_shared (x ∷ front) xs ys = ap (λ o. ordering_then o (lexed (front ++ xs) 
 
 -- first four bytes that tie are one
 pub one_prefix : (u v : View) (p q : ℕ) (r : Ordering) → p ≡ number_from_digits 256 (prefix_of (view_bytes u)) → q ≡ number_from_digits 256 (prefix_of (view_bytes v)) → MatchOrdering r (p < q) (p ≡ q) (q < p) → r ≡ Equal → prefix_of (view_bytes u) ≡ prefix_of (view_bytes v)
-one_prefix u v p q r is-p is-q h e =
+one_prefix u v p q r is_p is_q h e =
     same_numbers (prefix_of (view_bytes u)) (prefix_of (view_bytes v)) (under_prefix u) (under_prefix v) (length_prefix u ∙ sym (length_prefix v))
-    (sym is-p ∙ rank_same p q (sym (rank_says p q r h) ∙ e) ∙ is-q)
+    (sym is_p ∙ rank_same p q (sym (rank_says p q r h) ∙ e) ∙ is_q)
 
 -- ---- the first twelve, where the words hold them and the first four tie
 
@@ -55,21 +55,21 @@ module _ (u v : View) (xs ys : List ℕ) (front : prefix_of (view_bytes u) ≡ p
 
   -- the tails decide where they differ
   pub by_tail : (p q : ℕ) (r : Ordering) → p ≡ number_from_digits 256 (drop 8 (view_bytes u)) → q ≡ number_from_digits 256 (drop 8 (view_bytes v)) → MatchOrdering r (p < q) (p ≡ q) (q < p) → (r ≡ Equal → ⊥) → r ≡ byte_order xs ys
-  by_tail p q r is-p is-q h n =
+  by_tail p q r is_p is_q h n =
       let tails : nat_cmp (number_from_digits 256 (drop 8 (view_bytes u))) (number_from_digits 256 (drop 8 (view_bytes v))) ≡ lexed (drop 8 (view_bytes u)) (drop 8 (view_bytes v)) =
       numbers (drop 8 (view_bytes u)) (drop 8 (view_bytes v)) (under_tail u) (under_tail v) (length_tail u ∙ sym (length_tail v)) in
-      let is : r ≡ lexed (window 12 xs) (window 12 ys) = rank_says p q r h ∙ ap₂ nat_cmp is-p is-q ∙ tails ∙ sym whole_words in
+      let is : r ≡ lexed (window 12 xs) (window 12 ys) = rank_says p q r h ∙ ap₂ nat_cmp is_p is_q ∙ tails ∙ sym whole_words in
       is ∙ sym (lex_differ 12 xs ys (λ e. n (is ∙ e))) ∙ sym (by_lex xs ys)
 
   -- where they tie, the first twelve bytes are one
   pub one_tail : (p q : ℕ) (r : Ordering) → p ≡ number_from_digits 256 (drop 8 (view_bytes u)) → q ≡ number_from_digits 256 (drop 8 (view_bytes v)) → MatchOrdering r (p < q) (p ≡ q) (q < p) → r ≡ Equal → window 12 xs ≡ window 12 ys
-  one_tail p q r is-p is-q h e =
+  one_tail p q r is_p is_q h e =
       one_window (same_numbers (drop 8 (view_bytes u)) (drop 8 (view_bytes v)) (under_tail u) (under_tail v) (length_tail u ∙ sym (length_tail v))
-      (sym is-p ∙ rank_same p q (sym (rank_says p q r h) ∙ e) ∙ is-q))
+      (sym is_p ∙ rank_same p q (sym (rank_says p q r h) ∙ e) ∙ is_q))
 
 -- then the lengths decide
 pub by_size : (xs ys : List ℕ) (a b : ℕ) (r : Ordering) → MatchOrdering r (a < b) (a ≡ b) (b < a) → a ≡ length xs → b ≡ length ys → window 12 xs ≡ window 12 ys → length xs ≤ 12 → r ≡ byte_order xs ys
-by_size xs ys a b r k is-a is_b e h = rank_says a b r k ∙ ap₂ nat_cmp is-a is_b ∙ sym (lex_tie 12 xs ys e h) ∙ sym (by_lex xs ys)
+by_size xs ys a b r k is_a is_b e h = rank_says a b r k ∙ ap₂ nat_cmp is_a is_b ∙ sym (lex_tie 12 xs ys e h) ∙ sym (by_lex xs ys)
 
 -- ---- two views, and the values that their words tell of
 
@@ -93,8 +93,8 @@ module _ (u v : View) (xs ys : List ℕ) (us : Words (view_bytes u) xs) (vs : Wo
 
   -- where they differ, they decide
   pub by_prefix : (p q : ℕ) (r : Ordering) → p ≡ number_from_digits 256 (prefix_of (view_bytes u)) → q ≡ number_from_digits 256 (prefix_of (view_bytes v)) → MatchOrdering r (p < q) (p ≡ q) (q < p) → (r ≡ Equal → ⊥) → r ≡ byte_order xs ys
-  by_prefix p q r is-p is-q h n =
-      let is : r ≡ lexed (window 4 xs) (window 4 ys) = rank_says p q r h ∙ ap₂ nat_cmp is-p is-q ∙ prefix_words in
+  by_prefix p q r is_p is_q h n =
+      let is : r ≡ lexed (window 4 xs) (window 4 ys) = rank_says p q r h ∙ ap₂ nat_cmp is_p is_q ∙ prefix_words in
       is ∙ sym (lex_differ 4 xs ys (λ e. n (is ∙ e))) ∙ sym (by_lex xs ys)
 
   short_length : size_of (view_bytes u) ≤ 12 → length xs ≤ 12
@@ -119,7 +119,7 @@ module _ (u v : View) (xs ys : List ℕ) (us : Words (view_bytes u) xs) (vs : Wo
     one_value hu hv e = high_from u v hu hv (sym (drop-drop 4 4 (view_bytes u)) ∙ ap (drop 4) (sym left_whole ∙ ap (window 12) e ∙ right_whole) ∙ drop-drop 4 4 (view_bytes v))
 
     pub by_word : u.high < 2 ^ 64 → v.high < 2 ^ 64 → (p q : ℕ) → p ≡ u.high → q ≡ v.high → eqb p q ≡ is_eq (byte_order xs ys)
-    by_word hu hv p q is-p is-q = ap₂ eqb is-p is-q ∙ by (eqb u.high v.high) refl
+    by_word hu hv p q is_p is_q = ap₂ eqb is_p is_q ∙ by (eqb u.high v.high) refl
       where
         by : (b : Bool) → eqb u.high v.high ≡ b → b ≡ is_eq (byte_order xs ys)
         by true e = one_word (eqb-true u.high v.high e)

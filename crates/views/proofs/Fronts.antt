@@ -38,8 +38,8 @@ lex_common (suc n) (x ∷ xs) (y ∷ ys) e t =
 pub by_word : (xs ys : List ℕ) (at p q : ℕ) (r : Ordering) → AllBelowBase 256 xs → AllBelowBase 256 ys → at + 8 ≤ length xs → at + 8 ≤ length ys
     → p ≡ number_from_digits 256 (le_bytes 8 (pattern_at 8 xs at)) → q ≡ number_from_digits 256 (le_bytes 8 (pattern_at 8 ys at)) → MatchOrdering r (p < q) (p ≡ q) (q < p)
     → r ≡ byte_order (take 8 (drop at xs)) (take 8 (drop at ys))
-by_word xs ys at p q r u v h k is-p is-q ranked =
-    rank_says p q r ranked ∙ ap₂ nat_cmp is-p is-q
+by_word xs ys at p q r u v h k is_p is_q ranked =
+    rank_says p q r ranked ∙ ap₂ nat_cmp is_p is_q
     ∙ numbers (le_bytes 8 (pattern_at 8 xs at)) (le_bytes 8 (pattern_at 8 ys at)) (le_under 8 (pattern_at 8 xs at)) (le_under 8 (pattern_at 8 ys at)) refl
     ∙ ap₂ lexed (pattern_bytes 8 xs at u h) (pattern_bytes 8 ys at v k) ∙ sym (by_lex (take 8 (drop at xs)) (take 8 (drop at ys)))
 
@@ -84,7 +84,7 @@ module _ (w n : ℕ) (xs ys : List ℕ) (hx : n ≤ length xs) (hy : n ≤ lengt
 
 -- two parts, of which the second may overlap the first
 pub two_parts : (a b k : ℕ) (xs ys : List ℕ) (p q : Ordering) → a + b ≤ length xs → a + b ≤ length ys → k ≤ a → p ≡ byte_order (take a xs) (take a ys) → q ≡ byte_order (take (a + b - k) (drop k xs)) (take (a + b - k) (drop k ys)) → ordering_then p q ≡ byte_order (take (a + b) xs) (take (a + b) ys)
-two_parts a b k xs ys p q hx hy l is-p is-q = by p (is-p ∙ by_lex (take a xs) (take a ys)) ∙ sym (by_lex (take (a + b) xs) (take (a + b) ys))
+two_parts a b k xs ys p q hx hy l is_p is_q = by p (is_p ∙ by_lex (take a xs) (take a ys)) ∙ sym (by_lex (take (a + b) xs) (take (a + b) ys))
   where
     start : (zs : List ℕ) → take a (take (a + b) zs) ≡ take a zs
     start zs = take-take a (a + b) zs (omega arith)
@@ -102,7 +102,7 @@ two_parts a b k xs ys p q hx hy l is-p is-q = by p (is-p ∙ by_lex (take a xs) 
     by Equal e =
         let same : take a xs ≡ take a ys = lex_same (take a xs) (take a ys) (sym e) in
         let front : take k (take (a + b) xs) ≡ take k (take (a + b) ys) = take-take k (a + b) xs (omega arith) ∙ sym (take-take k a xs l) ∙ ap (take k) same ∙ take-take k a ys l ∙ sym (take-take k (a + b) ys (omega arith)) in
-        is-q ∙ by_lex (take (a + b - k) (drop k xs)) (take (a + b - k) (drop k ys)) ∙ ap₂ lexed (sym (rest xs)) (sym (rest ys)) ∙ sym (lex_front k (take (a + b) xs) (take (a + b) ys) front)
+        is_q ∙ by_lex (take (a + b - k) (drop k xs)) (take (a + b - k) (drop k ys)) ∙ ap₂ lexed (sym (rest xs)) (sym (rest ys)) ∙ sym (lex_front k (take (a + b) xs) (take (a + b) ys) front)
     by Greater e = first Greater e (λ t. true≢false (ap is_gt t))
 
 -- ---- whole strings, by all that both have

@@ -16,11 +16,11 @@ returns-in-Ok-collect g c =
     let left = c.in-Ok.ensures.means in
     let right = right_named c.args.fixed p bs c.args.left c.args.left_validity n _ _ _ left c.in-Ok-new.ensures.means in
     let no_fault = c.in-Ok.ensures.answers in
-    let no-fault' = c.in-Ok-new.ensures.answers in
+    let no_fault' = c.in-Ok-new.ensures.answers in
     let e = c.in-Ok-collect.ensures in
     let granted = answered _ _ xs ys n _ _ left right e.answers in
     record {
-      answers = λ i. answer (no_fault i) (no-fault' i) (granted i);
+      answers = λ i. answer (no_fault i) (no_fault' i) (granted i);
       writes =
           wrote _ _ xs ys c.args.op n (Ok c.in-Ok-collect.field-0) c.args.out.now _ left right e.writes
           ∙ ap (λ k. collected xs ys c.args.op n ++ drop k c.args.out.now) (grants xs ys n _ _ granted);
@@ -36,10 +36,10 @@ returns-in-Err-collect g c =
     let left = c.in-Ok.ensures.means in
     let right = right_named c.args.fixed p bs c.args.left c.args.left_validity n _ _ _ left c.in-Ok-new.ensures.means in
     let no_fault = c.in-Ok.ensures.answers in
-    let no-fault' = c.in-Ok-new.ensures.answers in
+    let no_fault' = c.in-Ok-new.ensures.answers in
     let e = c.in-Err-collect.ensures in
     let denied = answered _ _ xs ys n _ _ left right e.answers in
     record {
-      answers = c.number-in-Err-collect.ensures ∙ (λ i. answer (no_fault i) (no-fault' i) (denied i));
+      answers = c.number-in-Err-collect.ensures ∙ (λ i. answer (no_fault i) (no_fault' i) (denied i));
       writes = untouched c.in-Err-collect.fault c.number-in-Err-collect.result _ c.args.out.now _ c.number-in-Err-collect.ensures e.writes;
     }

@@ -10,7 +10,7 @@ use Rattle.views.proofs.resolved.ResolvedView.long_value.Goals as goal
 -- the buffer that the code takes
 buffer_is : (s : ResolvedView) (b : List ℕ) (i : ℕ) → i ≡ index_of (view_bytes s.view) → b ≡ part_bytes s.bytes.now (get_or s.buffers.now i nowhere) → b ≡ buffer_of s.bytes.now s.buffers.now (view_bytes s.view)
 unfolding buffer_of
-buffer_is s b i is-i is_b = is_b ∙ ap (λ k. part_bytes s.bytes.now (get_or s.buffers.now k nowhere)) is-i
+buffer_is s b i is_i is_b = is_b ∙ ap (λ k. part_bytes s.bytes.now (get_or s.buffers.now k nowhere)) is_i
 
 module _ (s : ResolvedView) (long : 12 < size_of (view_bytes s.view)) where
   good : view_fault s.bytes.now s.buffers.now (view_bytes s.view) ≡ None
@@ -20,7 +20,7 @@ module _ (s : ResolvedView) (long : 12 < size_of (view_bytes s.view)) where
   inside b e = omega (arith, (long_formed s.bytes.now s.buffers.now (view_bytes s.view) long good).1, ap length e)
 
   shown : (b : List ℕ) (n o : ℕ) → b ≡ buffer_of s.bytes.now s.buffers.now (view_bytes s.view) → n ≡ size_of (view_bytes s.view) → o ≡ offset_of (view_bytes s.view) → take n (drop o b) ≡ value s
-  shown b n o is_b is-n is-o = (λ i. take (is-n i) (drop (is-o i) (is_b i))) ∙ sym (value_long s.bytes.now s.buffers.now (view_bytes s.view) long)
+  shown b n o is_b is_n is_o = (λ i. take (is_n i) (drop (is_o i) (is_b i))) ∙ sym (value_long s.bytes.now s.buffers.now (view_bytes s.view) long)
 
 pub slice_bounds-result-end : goal.slice_bounds-result-end
 slice_bounds-result-end c =

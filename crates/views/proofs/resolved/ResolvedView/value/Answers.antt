@@ -7,9 +7,9 @@ use Rattle.views.proofs.resolved.ResolvedView.value.Goals as goal
 
 -- a short value stands four bytes into its view
 short_there : (bytes w : List ℕ) (at n : ℕ) → w ≡ take 16 (drop at bytes) → n ≤ 12 → take n (drop (at + 4) bytes) ≡ take n (drop 4 w)
-short_there bytes w at n is-w h =
+short_there bytes w at n is_w h =
     ap (take n) (sym (drop-drop 4 at bytes)) ∙ sym (take-take n 12 (drop 4 (drop at bytes)) h) ∙ ap (take n) (sym (drop-take 4 12 (drop at bytes)))
-    ∙ ap (λ ys. take n (drop 4 ys)) (sym is-w)
+    ∙ ap (λ ys. take n (drop 4 ys)) (sym is_w)
 
 pub returns-then-is_inlined : goal.returns-then-is_inlined
 returns-then-is_inlined c =
