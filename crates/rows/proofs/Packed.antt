@@ -1,4 +1,4 @@
--- Laws of bits bytes_of into bytes. Assumes nothing.
+-- Laws of bits packed into bytes. Assumes nothing.
 use Rattle.std.proofs.Common.{◌≡◌, ℕ, zero, suc, ◌+◌, ◌-◌, ◌*◌, ◌/◌, ◌%◌, ◌^◌, ◌<◌, ◌≤◌, min, Bool, true, false, List, [], ◌∷◌, ◌++◌, map, length, get_or, drop, set, sym, refl, ap, ◌∙◌, subst, ⊎_elim, lt_of_lt_of_le, add-zero, mul_assoc, mul_comm, pow-suc, add-one, arith, pow_mono}
 use native.Mathlib.Nat.{zero-div, div-eq_of_lt}
 use Rattle.std.proofs.lemmas.Nat.{shr-shr, or_shifted, or_comm, shl_whole}
@@ -58,7 +58,7 @@ write_more f k b old now h e t =
     put ∙ ap (λ y. map f (range_with_len 0 k) ++ y ∷ drop (k + 1) old) t ∙ sym (append_assoc (map f (range_with_len 0 k)) (f k ∷ []) (drop (k + 1) old))
     ∙ ap (λ xs. xs ++ drop (k + 1) old) (sym (map-range_with_len_more f 0 k k (omega arith)))
 
--- ---- the bits of what was bytes_of
+-- ---- the bits of what was packed
 
 bits_half : (f : ℕ → Bool) (s n : ℕ) → bits f s (suc n) / 2 ≡ bits f (s + 1) n
 unfolding bits

@@ -22,7 +22,7 @@ fn equal_rows<C: RowComparator>(comparator: &C, i: usize) -> bool
 }
 
 // Whether the operator holds of left row i and right row i.
-fn row_result<C: RowComparator, O: FixedOperator>(comparator: &C, i: usize) -> bool
+fn equality_result<C: RowComparator, O: FixedOperator>(comparator: &C, i: usize) -> bool
     ensures { result ≡ result_at (C.left comparator.now) (C.right comparator.now) O.means i }
 {
     match O::operator() {
@@ -45,7 +45,11 @@ impl<'c, C: RowComparator, O: FixedOperator> Results for RowResults<'c, C, O> {
 
     fn result(&self, place: usize) -> bool {
         match self.start.checked_add(place) {
-            Some(row) => row_result::<C, O>(self.comparator, row),
+            Some(row) if O::operator().asks_equality() => equality_result::<C, O>(
+                self.comparator,
+                row,
+            ),
+            Some(row) => O::operator().holds(self.comparator.compare(row, row)),
             None => false,
         }
     }

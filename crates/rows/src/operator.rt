@@ -1,7 +1,7 @@
 // The comparison operators.
 ghost use Rattle.std.specs.Prelude.{◌≡◌};
 ghost use Rattle.rows.specs.declared.operator.CompareOperator.{CompareOperator};
-ghost use Rattle.rows.specs.Operators.{holds, inverted, swapped, Complements, Mirrors};
+ghost use Rattle.rows.specs.Operators.{equality_asked, holds, inverted, swapped, Complements, Mirrors};
 
 use std::cmp::Ordering;
 
@@ -58,6 +58,13 @@ impl CompareOperator {
             CompareOperator::Lt => order.is_lt(),
             CompareOperator::Lte => order.is_le(),
         }
+    }
+
+    // Whether the operator asks only whether two values are equal.
+    pub(crate) fn asks_equality(self) -> bool
+        ensures { result ≡ equality_asked self }
+    {
+        matches!(self, CompareOperator::Eq | CompareOperator::NotEq)
     }
 }
 
