@@ -33,7 +33,4 @@ column_refusal Kind = refused 3 None None
 column_refusal (View row fault) = refused 7 (Some row) (Some (view_cause fault))
 
 abbrev pub column_number : ColumnFault → ℕ
-column_number Range = 1
-column_number Rows = 2
-column_number Kind = 3
-column_number (View row fault) = 7
+column_number f = (column_refusal f).number

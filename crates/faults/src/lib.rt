@@ -98,11 +98,6 @@ impl ColumnFault {
     pub fn number(self) -> u8
         ensures { result ≡ column_number self }
     {
-        match self {
-            ColumnFault::Range => 1,
-            ColumnFault::Rows => 2,
-            ColumnFault::Kind => 3,
-            ColumnFault::View { .. } => 7,
-        }
+        self.refusal().number
     }
 }

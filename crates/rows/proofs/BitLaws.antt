@@ -1,10 +1,8 @@
 -- Bytes of results by and, or, exclusive or and complement. Assumes nothing.
-use Rattle.std.proofs.Common.{◌≡◌, ℕ, zero, suc, ◌+◌, ◌-◌, ◌*◌, ◌/◌, ◌%◌, ◌^◌, ◌<◌, min, max, Bool, true, false, cond, not, ◌&&◌, ◌||◌, eqb, ltb, sym, refl, ap, ◌∙◌, ap₂, pow-suc, arith}
+use Rattle.std.proofs.Common.{◌≡◌, ℕ, zero, suc, ◌+◌, ◌-◌, ◌*◌, ◌/◌, ◌%◌, ◌^◌, ◌<◌, min, max, Bool, true, false, cond, not, ◌&&◌, ◌||◌, eqb, sym, refl, ap, ◌∙◌, ap₂, pow-suc, arith}
 use lib.Bits.{bit_and, bit_or, bit_xor, differ, and_step, or_step, xor_step, and_zero_l, or_zero_l, xor_zero_l}
 use Rattle.std.proofs.lemmas.Nat.{shr-shr}
-use Rattle.std.proofs.lemmas.Bool.{cond-true, lt-ltb}
 use Rattle.rows.specs.Bits.{digit, bits}
-use Rattle.rows.specs.Collected.{results_from}
 use Rattle.rows.proofs.Packed.{digit_below}
 
 -- the same results from another place on
@@ -101,9 +99,3 @@ bits_of x (suc n) h =
     bits_same (λ i. eqb (x / 2 ^ i % 2) 1) (λ i. eqb (x / 2 / 2 ^ i % 2) 1) (0 + 1) 0 n (λ k l. ap (λ y. eqb (y % 2) 1) (ap (λ m. x / 2 ^ m) (omega arith) ∙ sym (shr-shr x 1 k) ∙ ap (λ m. x / 2 / 2 ^ m) (omega arith))) in
     let high : bits (λ i. eqb (x / 2 / 2 ^ i % 2) 1) 0 n ≡ x / 2 = bits_of (x / 2) n (omega (arith, pow-suc 2 n)) in
     omega (arith, low, move, high)
-
--- a byte of the results from a row on
-pub from_start : (f : ℕ → Bool) (s n : ℕ) → s + n < 2 ^ 64 → bits (results_from f s) 0 n ≡ bits f s n
-from_start f s n h =
-    bits_same (results_from f s) f 0 s n
-    (λ k l. let e : s + (0 + k) ≡ s + k = omega arith in cond-true (ltb (s + (0 + k)) (2 ^ 64)) (f (s + (0 + k))) false (lt-ltb (s + (0 + k)) (2 ^ 64) (omega arith)) ∙ ap f e)

@@ -1,9 +1,9 @@
 -- Laws of bits packed into bytes. Assumes nothing.
-use Rattle.std.proofs.Common.{◌≡◌, ℕ, zero, suc, ◌+◌, ◌-◌, ◌*◌, ◌/◌, ◌%◌, ◌^◌, ◌<◌, ◌≤◌, min, Bool, true, false, List, [], ◌∷◌, ◌++◌, map, length, get_or, drop, set, sym, refl, ap, ◌∙◌, subst, ⊎_elim, lt_of_lt_of_le, add-zero, mul_assoc, mul_comm, pow-suc, add-one, arith, pow_mono}
+use Rattle.std.proofs.Common.{◌≡◌, ℕ, zero, suc, ◌+◌, ◌-◌, ◌*◌, ◌/◌, ◌%◌, ◌^◌, ◌<◌, ◌≤◌, min, Bool, true, false, List, [], ◌∷◌, ◌++◌, map, length, get_or, take, drop, set, sym, refl, ap, ◌∙◌, subst, ⊎_elim, lt_of_lt_of_le, add-zero, mul_assoc, mul_comm, pow-suc, add-one, arith, pow_mono}
 use native.Mathlib.Nat.{zero-div, div-eq_of_lt}
 use Rattle.std.proofs.lemmas.Nat.{shr-shr, or_shifted, or_comm, shl_whole}
 use Rattle.std.proofs.lemmas.List.FromFn.{get_or-map-range_with_len, map-range_with_len_more, length-map-range_with_len}
-use Rattle.std.proofs.lemmas.List.{get_or_past, drop_more, set_at, append_assoc}
+use Rattle.std.proofs.lemmas.List.{get_or_past, drop_all, drop_more, set_at, append-nil, append_assoc, length-take}
 use Rattle.std.specs.List.{range_with_len}
 use lib.Bits.{bit_or}
 use mir.Val.{bool_byte}
@@ -57,6 +57,15 @@ write_more f k b old now h e t =
     let put : set now k b ≡ map f (range_with_len 0 k) ++ b ∷ drop (k + 1) old = ap (λ xs. set xs k b) split ∙ set_at (map f (range_with_len 0 k)) _ _ b k (length-map-range_with_len f 0 k) in
     put ∙ ap (λ y. map f (range_with_len 0 k) ++ y ∷ drop (k + 1) old) t ∙ sym (append_assoc (map f (range_with_len 0 k)) (f k ∷ []) (drop (k + 1) old))
     ∙ ap (λ xs. xs ++ drop (k + 1) old) (sym (map-range_with_len_more f 0 k k (omega arith)))
+
+-- the end of a loop over the first q places: they are done, and the rest stands
+pub front_done : (f : ℕ → ℕ) (q k : ℕ) (old front : List ℕ) → k ≡ q → front ≡ map f (range_with_len 0 k) ++ drop k (take q old)
+    → front ++ drop q old ≡ map f (range_with_len 0 q) ++ drop q old
+front_done f q k old front h e =
+    ap (λ xs. xs ++ drop q old)
+    (e ∙ ap (λ i. map f (range_with_len 0 i) ++ drop i (take q old)) h
+    ∙ ap (λ xs. map f (range_with_len 0 q) ++ xs) (drop_all q (take q old) (omega (arith, length-take q old)))
+    ∙ append-nil (map f (range_with_len 0 q)))
 
 -- ---- the bits of what was packed
 

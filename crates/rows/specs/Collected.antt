@@ -1,5 +1,5 @@
 -- What a collection answers, and what it leaves in the output. Assumes nothing.
-use Rattle.std.specs.Prelude.{ℕ, ◌+◌, ◌^◌, Bool, false, cond, ◌||◌, List, ◌++◌, length, drop, Ok, Err, Result, nat_lt}
+use Rattle.std.specs.Prelude.{ℕ, Bool, cond, ◌||◌, List, ◌++◌, length, drop, Ok, Err, Result, nat_lt}
 use Rattle.faults.specs.declared.CollectFault.{CollectFault}
 use Rattle.faults.specs.declared.CollectFault.TheVariants.{Length, Output}
 use Rattle.rows.specs.Row.{Row, order, row}
@@ -10,10 +10,6 @@ use Rattle.rows.specs.declared.operator.CompareOperator.{CompareOperator}
 -- the result of row i: the operator of the order of the two rows
 abbrev pub result_at : List Row → List Row → CompareOperator → ℕ → Bool
 result_at xs ys op i = holds op (order (row xs i) (row ys i))
-
--- the results from row `start` on, as far as rows have numbers
-abbrev pub results_from : (ℕ → Bool) → ℕ → ℕ → Bool
-results_from f start k = cond (nat_lt (start + k) (2 ^ 64)) (f (start + k)) false
 
 -- the results of the first n rows, packed
 abbrev pub collected : List Row → List Row → CompareOperator → ℕ → List ℕ

@@ -1,5 +1,5 @@
 -- The six operators on the order of two values. Assumes nothing.
-use Rattle.std.specs.Prelude.{◌≡◌, Bool, true, false, not}
+use Rattle.std.specs.Prelude.{◌≡◌, Bool, not}
 use Rattle.std.specs.declared.cmp.Ordering.{Ordering}
 use Rattle.std.specs.Ordering.{is_eq, is_ne, is_lt, is_le, is_gt, is_ge, ordering_reverse}
 use Rattle.rows.specs.declared.operator.CompareOperator.{CompareOperator}
@@ -13,15 +13,6 @@ holds Gt o = is_gt o
 holds Gte o = is_ge o
 holds Lt o = is_lt o
 holds Lte o = is_le o
-
--- whether an operator tells equal values from others, and no more
-abbrev pub equality_asked : CompareOperator → Bool
-equality_asked Eq = true
-equality_asked NotEq = true
-equality_asked Gt = false
-equality_asked Gte = false
-equality_asked Lt = false
-equality_asked Lte = false
 
 abbrev pub inverted : CompareOperator → CompareOperator
 inverted Eq = NotEq

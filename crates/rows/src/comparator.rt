@@ -6,7 +6,7 @@ ghost use Rattle.rows.specs.Collected.{result_at};
 ghost use Rattle.rows.specs.Operators.{holds};
 ghost use Rattle.rows.specs.Row.{Row, order, row};
 
-use crate::operator::FixedOperator;
+use crate::operator::CompareOperator;
 use std::cmp::Ordering;
 
 pub trait RowComparator {
@@ -33,20 +33,20 @@ pub trait RowComparator {
     }
 
     // The results of rows 8k to 8k + 7 in a byte, from a comparator that has a faster way than row by row.
-    fn whole<O: FixedOperator>(&self, k: usize) -> Option<u8>
+    fn whole(&self, op: CompareOperator, k: usize) -> Option<u8>
         requires left_has { 8 * k + 8 ≤ length (left self.now) }
         requires right_has { 8 * k + 8 ≤ length (right self.now) }
         requires in_range { 8 * k + 8 < 2 ^ 64 }
-        ensures { IfSome result (λ b. b ≡ bits (result_at (left self.now) (right self.now) O.means) (8 * k) 8) }
+        ensures { IfSome result (λ b. b ≡ bits (result_at (left self.now) (right self.now) op) (8 * k) 8) }
     {
         None
     }
 
     // The same of left rows 8k to 8k + 7, each against right row j.
-    fn against<O: FixedOperator>(&self, k: usize, j: usize) -> Option<u8>
+    fn against(&self, op: CompareOperator, k: usize, j: usize) -> Option<u8>
         requires left_has { 8 * k + 8 ≤ length (left self.now) }
         requires in_range { 8 * k + 8 < 2 ^ 64 }
-        ensures { IfSome result (λ b. b ≡ bits (λ i. holds O.means (order (row (left self.now) i) (row (right self.now) j))) (8 * k) 8) }
+        ensures { IfSome result (λ b. b ≡ bits (λ i. holds op (order (row (left self.now) i) (row (right self.now) j))) (8 * k) 8) }
     {
         None
     }

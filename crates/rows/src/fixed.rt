@@ -3,7 +3,7 @@ ghost use Rattle.std.specs.Prelude.{◌≡◌, length, replicate};
 ghost use Rattle.rows.specs.Row.{row};
 
 use crate::comparator::RowComparator;
-use crate::operator::FixedOperator;
+use crate::operator::CompareOperator;
 use std::cmp::Ordering;
 
 // Over any comparator: its right list is row 0 from below, once for each left row.
@@ -44,7 +44,8 @@ impl<C: RowComparator> RowComparator for FixedRow<C> {
         self.below.compare(i, row)
     }
 
-    fn whole<O: FixedOperator>(&self, k: usize) -> Option<u8> {
-        self.below.against::<O>(k, 0)
+    #[inline(always)]
+    fn whole(&self, op: CompareOperator, k: usize) -> Option<u8> {
+        self.below.against(op, k, 0)
     }
 }

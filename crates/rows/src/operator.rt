@@ -1,7 +1,7 @@
 // The comparison operators.
 ghost use Rattle.std.specs.Prelude.{◌≡◌};
 ghost use Rattle.rows.specs.declared.operator.CompareOperator.{CompareOperator};
-ghost use Rattle.rows.specs.Operators.{equality_asked, holds, inverted, swapped, Complements, Mirrors};
+ghost use Rattle.rows.specs.Operators.{holds, inverted, swapped, Complements, Mirrors};
 
 use std::cmp::Ordering;
 
@@ -58,80 +58,5 @@ impl CompareOperator {
             CompareOperator::Lt => order.is_lt(),
             CompareOperator::Lte => order.is_le(),
         }
-    }
-
-    // Whether the operator asks only whether two values are equal.
-    pub(crate) fn asks_equality(self) -> bool
-        ensures { result ≡ equality_asked self }
-    {
-        matches!(self, CompareOperator::Eq | CompareOperator::NotEq)
-    }
-}
-
-// An operator as a type, so that the loop over rows is compiled for each one.
-pub trait FixedOperator {
-    ghost means: { CompareOperator };
-
-    fn operator() -> CompareOperator
-        ensures { result ≡ means };
-}
-
-pub struct IsEq;
-
-impl FixedOperator for IsEq {
-    ghost means = { CompareOperator.Eq };
-
-    fn operator() -> CompareOperator {
-        CompareOperator::Eq
-    }
-}
-
-pub struct IsNotEq;
-
-impl FixedOperator for IsNotEq {
-    ghost means = { CompareOperator.NotEq };
-
-    fn operator() -> CompareOperator {
-        CompareOperator::NotEq
-    }
-}
-
-pub struct IsGt;
-
-impl FixedOperator for IsGt {
-    ghost means = { CompareOperator.Gt };
-
-    fn operator() -> CompareOperator {
-        CompareOperator::Gt
-    }
-}
-
-pub struct IsGte;
-
-impl FixedOperator for IsGte {
-    ghost means = { CompareOperator.Gte };
-
-    fn operator() -> CompareOperator {
-        CompareOperator::Gte
-    }
-}
-
-pub struct IsLt;
-
-impl FixedOperator for IsLt {
-    ghost means = { CompareOperator.Lt };
-
-    fn operator() -> CompareOperator {
-        CompareOperator::Lt
-    }
-}
-
-pub struct IsLte;
-
-impl FixedOperator for IsLte {
-    ghost means = { CompareOperator.Lte };
-
-    fn operator() -> CompareOperator {
-        CompareOperator::Lte
     }
 }

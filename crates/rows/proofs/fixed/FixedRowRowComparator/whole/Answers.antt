@@ -6,4 +6,4 @@ pub returns : goal.returns
 returns g c =
     let m = g.C.RowComparator in
     let s = c.args.self.now.below in
-    fixed_byte (m.left s) (m.right s) g.O.FixedOperator.means (8 * c.args.k) c.against.result (omega arith) c.against.ensures
+    fixed_byte (m.left s) (m.right s) c.args.op (8 * c.args.k) c.against.result (omega arith) c.against.ensures
