@@ -1,46 +1,96 @@
 -- The keys as the code computes them. Assumes nothing.
-use Rattle.std.proofs.Common.{◌≡◌, ℕ, suc, ◌+◌, ◌-◌, ◌*◌, ◌/◌, ◌%◌, ◌^◌, ◌<◌, ◌≤◌, true, ltb, ℤ, pos, negsuc, ◌-ℤ◌, sym, ap, ◌∙◌, subst, ap₂, ⊎_elim, mod-eq_of_lt, add-mul, arith, w8, w16, w32, w64, SFits, to_z, of_z}
-use native.Mathlib.Nat.{two-pow-succ, div-eq_of_lt, zero-div}
+use Rattle.std.proofs.Common.{◌≡◌, ℕ, suc, ◌+◌, ◌-◌, ◌*◌, ◌/◌, ◌%◌, ◌^◌, ◌<◌, ◌≤◌, true, cond, ltb, pos, negsuc, ◌-ℤ◌, sym, ap, ◌∙◌, subst, ap₂, ⊎_elim, mod-eq_of_lt, add-mul, arith, w64, to_z, refl}
+use native.Mathlib.Nat.{pow-succ', div-eq_of_lt, zero-div}
 use lib.Bits.{bit_and, bit_xor, xor_zero_r, xor_block, xor_add_and}
-use mir.Syntax.{Width, w128}
-use mir.Val.{bits, hbits}
-use Rattle.std.proofs.lemmas.Nat.{and_mask, div-mul-add, pow-add, pow_pos}
-use Rattle.std.proofs.lemmas.Int.{ints, to_z-of_z}
+use lib.Signed.{shr_z}
+use Rattle.std.proofs.lemmas.Nat.{and_mask, div-mul-add, pow-add, pow_pos, mul-le, mod_below, shl-shr}
+use Rattle.std.proofs.lemmas.Nat.Bits.{ones_shr}
+use Rattle.std.proofs.Math.Arith.{mod-mul}
+use Rattle.std.proofs.Math.Nat.{mul-mod_left}
+use Rattle.std.proofs.Math.Facts.{to_z-neg}
+use Rattle.std.proofs.lemmas.Int.{ints, to_z_pos}
 use Rattle.std.proofs.lemmas.Bool.{cases_lt, cond-true, cond-false, lt-ltb, le-ltb}
-use Rattle.std.proofs.lemmas.Bool.Decides.{nat_tests}
 use Rattle.elements.specs.declared.ptype.Class.TheVariants.{Signed, Float}
 use Rattle.elements.specs.Keys.{key_by, sign_bit, low_bytes}
 
--- a mask of so many bits takes the lowest bytes
-pub masked : (width bits n : ℕ) → bits ≡ 8 * width → bit_and n (2 ^ bits - 1) ≡ low_bytes width n
-masked width bits n e = and_mask n bits ∙ ap (λ k. n % 2 ^ k) e
+-- a power is twice the one below
+pub doubled : (k : ℕ) → 0 < k → 2 ^ k ≡ 2 * 2 ^ (k - 1)
+doubled k h = let e : k ≡ suc (k - 1) = omega arith in ap (λ j. 2 ^ j) e ∙ pow-succ' 2 (k - 1)
 
--- a signed number by its bits
-pub signed_form : (w : Width) (n : ℕ) → n < 2 ^ bits w → to_z w n ≡ key_by Signed (bits w / 8) n
+-- ---- the lowest k bits of 64
+
+-- k of 64 ones
+ones_high : (k : ℕ) → k ≤ 64 → (2 ^ 64 - 1) / 2 ^ (64 - k) ≡ 2 ^ k - 1
+ones_high k h = let rest : 64 - (64 - k) ≡ k = omega arith in ones_shr 64 (64 - k) (omega arith) ∙ ap (λ j. 2 ^ j - 1) rest
+
+-- a mask takes them
+pub masked : (width k n : ℕ) → k ≡ 8 * width → k ≤ 64 → bit_and n ((2 ^ 64 - 1) / 2 ^ (64 - k)) ≡ low_bytes width n
+masked width k n e h = ap (bit_and n) (ones_high k h) ∙ and_mask n k ∙ ap (λ j. n % 2 ^ j) e
+
+-- shifted to the top, and down again with the sign, they are the signed number that they write
+module _ (k low : ℕ) (some : 0 < k) (most : k ≤ 64) (fits : low < 2 ^ k) where
+  abbrev A : ℕ
+  A = 2 ^ k
+
+  abbrev B : ℕ
+  B = 2 ^ (64 - k)
+
+  abbrev S : ℕ
+  S = 2 ^ (k - 1)
+
+  -- the word and its half as products
+  whole : 2 ^ 64 ≡ A * B
+  whole = let sum : 64 ≡ k + (64 - k) = omega arith in ap (λ e. 2 ^ e) sum ∙ pow-add 2 k (64 - k)
+
+  half : 2 ^ 63 ≡ S * B
+  half = let sum : 63 ≡ k - 1 + (64 - k) = omega arith in ap (λ e. 2 ^ e) sum ∙ pow-add 2 (k - 1) (64 - k)
+
+  -- the sign bit is clear
+  plain : low < S → shr_z (to_z w64 (low * B)) B ≡ pos low
+  plain h =
+      let l : low * B + B ≤ S * B = omega (arith, mul-le (low + 1) B S B (omega arith) (omega arith)) in
+      let top : low * B < 2 ^ 63 = omega (arith, half, pow_pos (64 - k)) in
+      ap (λ z. shr_z z B) (to_z_pos w64 (low * B) top) ∙ ap pos (shl-shr low (64 - k))
+
+  -- the sign bit is set
+  minus : S ≤ low → shr_z (to_z w64 (low * B)) B ≡ pos low -ℤ pos A
+  minus h =
+      let d = A - low - 1 in
+      let j = d * B + (B - 1) in
+      let sum : A ≡ low + (d + 1) = omega arith in
+      let split : A * B ≡ low * B + (d * B + B) = ap (λ a. a * B) sum ∙ add-mul low (d + 1) B ∙ omega (arith, add-mul d 1 B) in
+      let up : low * B ≡ 2 ^ 64 - suc j = omega (arith, whole, split, pow_pos (64 - k)) in
+      let l : d * B + B ≤ S * B = omega (arith, doubled k some, mul-le (d + 1) B S B (omega (arith, doubled k some)) (omega arith), add-mul d 1 B) in
+      let small : j < 2 ^ 63 = omega (arith, half, pow_pos (64 - k)) in
+      ap (λ m. shr_z (to_z w64 m) B) up ∙ ap (λ z. shr_z z B) (to_z-neg w64 j small)
+      ∙ ap negsuc (div-mul-add d B (B - 1) (omega (arith, pow_pos (64 - k)))) ∙ omega (arith, ints)
+
+  -- by the sign bit
+  number : shr_z (to_z w64 (low * B)) B ≡ cond (ltb low S) (pos low) (pos low -ℤ pos A)
+  number =
+      ⊎_elim
+      (λ (h : low < S). plain h ∙ sym (cond-true (ltb low S) (pos low) (pos low -ℤ pos A) (lt-ltb low S h)))
+      (λ (h : S ≤ low). minus h ∙ sym (cond-false (ltb low S) (pos low) (pos low -ℤ pos A) (le-ltb low S h)))
+      (cases_lt low S)
+
+  -- what is shifted out does not count
+  shift : (n : ℕ) → n % A ≡ low → n * B % 2 ^ 64 ≡ low * B
+  shift n e = ap (λ m. n * B % m) whole ∙ mod-mul (n * B) {m = A} {c = B} (pow_pos k) (pow_pos (64 - k)) ∙ omega (arith, mul-mod_left n B, ap (λ m. m % A * B) (shl-shr n (64 - k)), ap (λ m. m * B) e)
+
+-- so the shifts make the key
+pub shifted : (width k n : ℕ) → k ≡ 8 * width → 0 < k → k ≤ 64 → shr_z (to_z w64 (n * 2 ^ (64 - k) % 2 ^ 64)) (2 ^ (64 - k)) ≡ key_by Signed width (low_bytes width n)
 unfolding key_by
-signed_form w8 n h = grind (arith, ints, nat_tests)
-signed_form w16 n h = grind (arith, ints, nat_tests)
-signed_form w32 n h = grind (arith, ints, nat_tests)
-signed_form w64 n h = grind (arith, ints, nat_tests)
-signed_form w128 n h = grind (arith, ints, nat_tests)
-
--- a signed number stays the same in a wider type
-pub widened : (w : Width) (z : ℤ) → SFits w z → 2 ^ hbits w ≤ 2 ^ 63 → to_z w64 (of_z w64 (to_z w (of_z w z))) ≡ z
-widened w z f h =
-    let same : to_z w (of_z w z) ≡ z = to_z-of_z w z f in
-    ap (λ y. to_z w64 (of_z w64 y)) same ∙ to_z-of_z w64 z (record { sfits = omega (arith, f.sfits) })
-
--- the same of a number that was cast from the lowest bytes
-pub cast_form : (w : Width) (n : ℕ) (z : ℤ) → SFits w z → 2 ^ hbits w ≤ 2 ^ 63 → z ≡ to_z w (low_bytes (bits w / 8) n) → low_bytes (bits w / 8) n < 2 ^ bits w
-    → to_z w64 (of_z w64 (to_z w (of_z w z))) ≡ key_by Signed (bits w / 8) (low_bytes (bits w / 8) n)
-cast_form w n z f h e l = widened w z f h ∙ e ∙ signed_form w (low_bytes (bits w / 8) n) l
+shifted width k n e some most =
+    let low = n % 2 ^ k in
+    let fits : low < 2 ^ k = mod_below n (2 ^ k) (pow_pos k) in
+    ap (λ m. shr_z (to_z w64 m) (2 ^ (64 - k))) (shift k low some most fits n refl) ∙ number k low some most fits
+    ∙ ap (λ j. cond (ltb (n % 2 ^ j) (2 ^ (j - 1))) (pos (n % 2 ^ j)) (pos (n % 2 ^ j) -ℤ pos (2 ^ j))) e
 
 -- ---- floats
 
+-- twice the sign bit is above all patterns
 pub two_signs : (width : ℕ) → 0 < width → 2 ^ (8 * width) ≡ 2 * sign_bit width
-two_signs width h =
-    let e : 8 * width ≡ suc (8 * width - 1) = omega arith in
-    ap (λ k. 2 ^ k) e ∙ two-pow-succ (8 * width - 1) ∙ omega arith
+two_signs width h = doubled (8 * width) (omega arith)
 
 -- all bits below the sign bit flipped
 flipped : (k m : ℕ) → m < 2 ^ k → bit_xor m (2 ^ k - 1) ≡ 2 ^ k - 1 - m
@@ -54,18 +104,6 @@ flip_clear k low h =
     let none : low / 2 ^ k ≡ 0 = div-eq_of_lt h in
     let all : (0 + (2 ^ 64 - low / 2 ^ k)) % 2 ^ 64 ≡ 0 = omega arith in
     ap (λ z. z / 2 ^ (64 - k)) all ∙ zero-div (2 ^ (64 - k))
-
--- k of 64 ones
-ones_high : (k : ℕ) → k ≤ 64 → (2 ^ 64 - 1) / 2 ^ (64 - k) ≡ 2 ^ k - 1
-ones_high k h =
-    let a = 2 ^ k in
-    let b = 2 ^ (64 - k) in
-    let sum : 64 ≡ k + (64 - k) = omega arith in
-    let whole : 2 ^ 64 ≡ a * b = ap (λ e. 2 ^ e) sum ∙ pow-add 2 k (64 - k) in
-    let up : a ≡ a - 1 + 1 = omega (arith, pow_pos k) in
-    let less : a * b ≡ (a - 1) * b + b = ap (λ z. z * b) up ∙ add-mul (a - 1) 1 b ∙ omega arith in
-    let split : 2 ^ 64 - 1 ≡ (a - 1) * b + (b - 1) = omega (arith, whole, less, pow_pos (64 - k)) in
-    ap (λ z. z / b) split ∙ div-mul-add (a - 1) b (b - 1) (omega (arith, pow_pos (64 - k)))
 
 flip_set : (k low : ℕ) → k ≤ 64 → 2 ^ k ≤ low → low < 2 * 2 ^ k → (0 + (2 ^ 64 - low / 2 ^ k)) % 2 ^ 64 / 2 ^ (64 - k) ≡ 2 ^ k - 1
 flip_set k low most l h =
@@ -117,3 +155,14 @@ module _ (width low flip : ℕ) (some : 0 < width) (most : width ≤ 8) (fits : 
 
   pub float_form : key_by Signed width (low_bytes width (bit_xor low flip)) ≡ key_by Float width low
   float_form = ⊎_elim clear set (cases_lt low (sign_bit width))
+
+-- the same by the number of bits
+pub float_bits : (width k n low : ℕ) → k ≡ 8 * width → 8 ≤ k → k ≤ 64 → low ≡ low_bytes width n
+    → key_by Signed width (low_bytes width (bit_xor low ((0 + (2 ^ 64 - low / 2 ^ (k - 1))) % 2 ^ 64 / 2 ^ (65 - k)))) ≡ key_by Float width (low_bytes width n)
+float_bits width k n low e least most is =
+    let some : 0 < width = omega arith in
+    let eight : width ≤ 8 = omega arith in
+    let fits : low < 2 ^ (8 * width) = subst (λ x. x < 2 ^ (8 * width)) (sym is) (mod_below n (2 ^ (8 * width)) (pow_pos (8 * width))) in
+    let places : 65 - 8 * width ≡ 64 - (8 * width - 1) = omega arith in
+    let flip = ap (λ j. (0 + (2 ^ 64 - low / 2 ^ (j - 1))) % 2 ^ 64 / 2 ^ (65 - j)) e ∙ ap (λ j. (0 + (2 ^ 64 - low / 2 ^ (8 * width - 1))) % 2 ^ 64 / 2 ^ j) places in
+    float_form width low _ some eight fits flip ∙ ap (key_by Float width) is

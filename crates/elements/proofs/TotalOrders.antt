@@ -10,15 +10,10 @@ use Rattle.std.proofs.lemmas.Bool.{ltb-true, ltb-false, leb-true, leb-false, eqb
 use Rattle.std.proofs.lemmas.Bool.Decides.{nat_tests}
 use Rattle.std.specs.Ordering.{is_le, int_cmp}
 use Rattle.elements.specs.Keys.{sign_bit, key_by}
+use Rattle.elements.proofs.KeyForms.{doubled}
 use Rattle.elements.specs.TotalOrder.{KeysAreTotalOrder, TotalOrder, Number, NaN, negative, exponent, significand, top_exponent, is_quiet, payload, absolute, value, key_le}
 
 -- ---- powers of two
-
--- a power is twice the one below
-doubled : (k : ℕ) → 0 < k → 2 ^ k ≡ 2 * 2 ^ (k - 1)
-doubled k h =
-    let e : k ≡ suc (k - 1) = omega arith in
-    ap (λ j. 2 ^ j) e ∙ pow-succ' 2 (k - 1)
 
 -- the low k bits of the low j
 low_bits : (x j k : ℕ) → k ≤ j → x % 2 ^ j % 2 ^ k ≡ x % 2 ^ k

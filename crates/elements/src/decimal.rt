@@ -32,15 +32,14 @@ impl DecimalType {
         ensures answers { is_ok result ≡ decimal_ranges precision scale width }
         ensures value { MatchResult result (λ d. (d.precision ≡ precision) × (d.scale ≡ scale) × (Some d.stored ≡ stored_as width)) (λ f. f ≡ Kind) }
     {
-        let Some(stored) = stored_type(width) else {
-            return Err(ColumnFault::Kind);
-        };
-        if precision < 1 || precision > 18 || scale < -128 || scale > 127 {
+        let stored = stored_type(width).ok_or(ColumnFault::Kind)?;
+        let scale = i8::try_from(scale).map_err(|_| ColumnFault::Kind)?;
+        if !(1..=18).contains(&precision) {
             return Err(ColumnFault::Kind);
         }
         Ok(DecimalType {
             precision: precision as u8,
-            scale: scale as i8,
+            scale,
             stored,
         })
     }

@@ -1,5 +1,5 @@
 // The element kinds: each has a PType, a width in bytes, a reading of that many bytes, and a key.
-ghost use Rattle.std.specs.Prelude.{◌≡◌, ℕ, ◌+◌, ◌≤◌, length};
+ghost use Rattle.std.specs.Prelude.{◌≡◌, ℕ, ◌+◌, ◌≤◌, length, refl};
 ghost use Rattle.elements.specs.declared.ptype.PType.{PType};
 ghost use Rattle.elements.specs.Kinds.{width_of};
 ghost use Rattle.elements.specs.Keys.{key_of, by_key, KeyLaw};
@@ -11,42 +11,44 @@ use crate::reader::read_pattern;
 use std::cmp::Ordering;
 
 pub trait ElementKind {
+    // The type of the elements.
     const PTYPE: PType;
 
+    // The bytes of an element.
     const WIDTH: usize;
 
-    ghost kind: { PType };
-    // The order of the keys is total and transitive, and Equal only for the same pattern.
-    ghost lawful: { KeyLaw (width_of kind) (key_of kind) };
+    // The two constants, as clauses name them.
+    ghost PTYPE: { PType };
 
-    // Generic code knows nothing of a constant's value, so these two tell it.
-    fn element_type() -> PType
-        ensures { result ≡ kind };
-
-    fn element_width() -> usize
-        ensures { result ≡ width_of kind };
+    ghost WIDTH: { ℕ };
 
     // The pattern that stands at `start`.
     fn read(bytes: &[u8], start: usize) -> u64
-        requires { start + width_of kind ≤ length bytes.now }
-        ensures { result ≡ pattern_at (width_of kind) bytes.now start }
+        requires { start + width_of PTYPE ≤ length bytes.now }
+        ensures { result ≡ pattern_at (width_of PTYPE) bytes.now start }
     {
-        read_pattern(bytes, start, Self::element_width())
+        read_pattern(bytes, start, Self::WIDTH)
     }
 
     // The key of a pattern.
     fn key_of(pattern: u64) -> i128
-        ensures { result ≡ key_of kind pattern }
+        ensures { result ≡ key_of PTYPE pattern }
     {
-        Self::element_type().key(pattern)
+        Self::PTYPE.key(pattern)
     }
 
     // The order of two patterns, that of their keys.
     fn total_compare(left: u64, right: u64) -> Ordering
-        ensures { result ≡ by_key (key_of kind) left right }
+        ensures { result ≡ by_key (key_of PTYPE) left right }
     {
-        Self::element_type().total_compare(left, right)
+        Self::PTYPE.total_compare(left, right)
     }
+
+    // The width is that of the type.
+    ghost wide: { WIDTH ≡ width_of PTYPE };
+
+    // The order of the keys is total and transitive, and Equal only for the same pattern.
+    ghost lawful: { KeyLaw (width_of PTYPE) (key_of PTYPE) } = { key_law PTYPE };
 }
 
 pub struct U8;
@@ -56,17 +58,11 @@ impl ElementKind for U8 {
 
     const WIDTH: usize = 1;
 
-    ghost kind = { PType.U8 };
+    ghost PTYPE = { PType.U8 };
 
-    ghost lawful = { key_law PType.U8 };
+    ghost WIDTH = { 1 };
 
-    fn element_type() -> PType {
-        Self::PTYPE
-    }
-
-    fn element_width() -> usize {
-        Self::WIDTH
-    }
+    ghost wide = { refl };
 }
 
 pub struct U16;
@@ -76,17 +72,11 @@ impl ElementKind for U16 {
 
     const WIDTH: usize = 2;
 
-    ghost kind = { PType.U16 };
+    ghost PTYPE = { PType.U16 };
 
-    ghost lawful = { key_law PType.U16 };
+    ghost WIDTH = { 2 };
 
-    fn element_type() -> PType {
-        Self::PTYPE
-    }
-
-    fn element_width() -> usize {
-        Self::WIDTH
-    }
+    ghost wide = { refl };
 }
 
 pub struct U32;
@@ -96,17 +86,11 @@ impl ElementKind for U32 {
 
     const WIDTH: usize = 4;
 
-    ghost kind = { PType.U32 };
+    ghost PTYPE = { PType.U32 };
 
-    ghost lawful = { key_law PType.U32 };
+    ghost WIDTH = { 4 };
 
-    fn element_type() -> PType {
-        Self::PTYPE
-    }
-
-    fn element_width() -> usize {
-        Self::WIDTH
-    }
+    ghost wide = { refl };
 }
 
 pub struct U64;
@@ -116,17 +100,11 @@ impl ElementKind for U64 {
 
     const WIDTH: usize = 8;
 
-    ghost kind = { PType.U64 };
+    ghost PTYPE = { PType.U64 };
 
-    ghost lawful = { key_law PType.U64 };
+    ghost WIDTH = { 8 };
 
-    fn element_type() -> PType {
-        Self::PTYPE
-    }
-
-    fn element_width() -> usize {
-        Self::WIDTH
-    }
+    ghost wide = { refl };
 }
 
 pub struct I8;
@@ -136,17 +114,11 @@ impl ElementKind for I8 {
 
     const WIDTH: usize = 1;
 
-    ghost kind = { PType.I8 };
+    ghost PTYPE = { PType.I8 };
 
-    ghost lawful = { key_law PType.I8 };
+    ghost WIDTH = { 1 };
 
-    fn element_type() -> PType {
-        Self::PTYPE
-    }
-
-    fn element_width() -> usize {
-        Self::WIDTH
-    }
+    ghost wide = { refl };
 }
 
 pub struct I16;
@@ -156,17 +128,11 @@ impl ElementKind for I16 {
 
     const WIDTH: usize = 2;
 
-    ghost kind = { PType.I16 };
+    ghost PTYPE = { PType.I16 };
 
-    ghost lawful = { key_law PType.I16 };
+    ghost WIDTH = { 2 };
 
-    fn element_type() -> PType {
-        Self::PTYPE
-    }
-
-    fn element_width() -> usize {
-        Self::WIDTH
-    }
+    ghost wide = { refl };
 }
 
 pub struct I32;
@@ -176,17 +142,11 @@ impl ElementKind for I32 {
 
     const WIDTH: usize = 4;
 
-    ghost kind = { PType.I32 };
+    ghost PTYPE = { PType.I32 };
 
-    ghost lawful = { key_law PType.I32 };
+    ghost WIDTH = { 4 };
 
-    fn element_type() -> PType {
-        Self::PTYPE
-    }
-
-    fn element_width() -> usize {
-        Self::WIDTH
-    }
+    ghost wide = { refl };
 }
 
 pub struct I64;
@@ -196,17 +156,11 @@ impl ElementKind for I64 {
 
     const WIDTH: usize = 8;
 
-    ghost kind = { PType.I64 };
+    ghost PTYPE = { PType.I64 };
 
-    ghost lawful = { key_law PType.I64 };
+    ghost WIDTH = { 8 };
 
-    fn element_type() -> PType {
-        Self::PTYPE
-    }
-
-    fn element_width() -> usize {
-        Self::WIDTH
-    }
+    ghost wide = { refl };
 }
 
 pub struct F16;
@@ -216,17 +170,11 @@ impl ElementKind for F16 {
 
     const WIDTH: usize = 2;
 
-    ghost kind = { PType.F16 };
+    ghost PTYPE = { PType.F16 };
 
-    ghost lawful = { key_law PType.F16 };
+    ghost WIDTH = { 2 };
 
-    fn element_type() -> PType {
-        Self::PTYPE
-    }
-
-    fn element_width() -> usize {
-        Self::WIDTH
-    }
+    ghost wide = { refl };
 }
 
 pub struct F32;
@@ -236,17 +184,11 @@ impl ElementKind for F32 {
 
     const WIDTH: usize = 4;
 
-    ghost kind = { PType.F32 };
+    ghost PTYPE = { PType.F32 };
 
-    ghost lawful = { key_law PType.F32 };
+    ghost WIDTH = { 4 };
 
-    fn element_type() -> PType {
-        Self::PTYPE
-    }
-
-    fn element_width() -> usize {
-        Self::WIDTH
-    }
+    ghost wide = { refl };
 }
 
 pub struct F64;
@@ -256,23 +198,17 @@ impl ElementKind for F64 {
 
     const WIDTH: usize = 8;
 
-    ghost kind = { PType.F64 };
+    ghost PTYPE = { PType.F64 };
 
-    ghost lawful = { key_law PType.F64 };
+    ghost WIDTH = { 8 };
 
-    fn element_type() -> PType {
-        Self::PTYPE
-    }
-
-    fn element_width() -> usize {
-        Self::WIDTH
-    }
+    ghost wide = { refl };
 }
 
 // The law of a kind stands for every kind.
 pub fn kind_law<K: ElementKind>() -> PType
-    ensures value { result ≡ K.kind }
+    ensures value { result ≡ K.PTYPE }
     ensures law { KeyLaw (width_of result) (key_of result) }
 {
-    K::element_type()
+    K::PTYPE
 }

@@ -1,4 +1,4 @@
-// The element kinds and the comparator of two number columns.
+// The element kinds, their keys, and decimals.
 #![tactic(auto)]
 
 ghost use Rattle.elements.specs.Readings.{Readings};
@@ -11,15 +11,13 @@ pub mod ptype;
 mod reader;
 
 // The order of the keys of floats is IEEE 754 totalOrder, in each of the three formats.
-pub fn float_order_stands() -> u8
+#[tactic(auto, using(crate::proofs::TotalOrders::stands))]
+pub fn float_order_stands()
     ensures { KeysAreTotalOrder }
-{
-    0
-}
+{}
 
 // Worked readings of the definitions, all together.
-pub fn readings_stand() -> u8
+#[tactic(auto, unfolding(crate::specs::Keys::key_of, crate::specs::Keys::key_by))]
+pub fn readings_stand()
     ensures { Readings }
-{
-    0
-}
+{}

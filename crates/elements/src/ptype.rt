@@ -2,7 +2,6 @@
 ghost use Rattle.std.specs.Prelude.{◌≡◌};
 ghost use Rattle.elements.specs.Kinds.{class_of, code_of, coded, width_of};
 
-use crate::kind::{ElementKind, F16, F32, F64, I8, I16, I32, I64, U8, U16, U32, U64};
 use faults::ColumnFault;
 
 #[derive(Clone, Copy, PartialEq, Eq, Debug)]
@@ -28,33 +27,40 @@ pub enum Class {
     Float,
 }
 
-impl PType {
-    // The type with this code, 0 to 10.
-    pub fn from_code(code: u64) -> Result<PType, ColumnFault>
-        ensures { result ≡ coded code }
-    {
+// The type with this code, 0 to 10.
+impl TryFrom<u64> for PType {
+    type Error = ColumnFault;
+
+    ghost try_from_gives = { λ n r. r ≡ coded n };
+
+    fn try_from(code: u64) -> Result<PType, ColumnFault> {
         match code {
-            0 => Ok(U8::PTYPE),
-            1 => Ok(U16::PTYPE),
-            2 => Ok(U32::PTYPE),
-            3 => Ok(U64::PTYPE),
-            4 => Ok(I8::PTYPE),
-            5 => Ok(I16::PTYPE),
-            6 => Ok(I32::PTYPE),
-            7 => Ok(I64::PTYPE),
-            8 => Ok(F16::PTYPE),
-            9 => Ok(F32::PTYPE),
-            10 => Ok(F64::PTYPE),
+            0 => Ok(PType::U8),
+            1 => Ok(PType::U16),
+            2 => Ok(PType::U32),
+            3 => Ok(PType::U64),
+            4 => Ok(PType::I8),
+            5 => Ok(PType::I16),
+            6 => Ok(PType::I32),
+            7 => Ok(PType::I64),
+            8 => Ok(PType::F16),
+            9 => Ok(PType::F32),
+            10 => Ok(PType::F64),
             _ => Err(ColumnFault::Kind),
         }
     }
+}
 
-    pub fn code(self) -> u8
-        ensures { result ≡ code_of self }
-    {
-        self as u8
+// The code of a type.
+impl From<PType> for u8 {
+    ghost from_gives = { λ p n. n ≡ code_of p };
+
+    fn from(ptype: PType) -> u8 {
+        ptype as u8
     }
+}
 
+impl PType {
     pub fn class(self) -> Class
         ensures { result ≡ class_of self }
     {
@@ -70,17 +76,10 @@ impl PType {
         ensures { result ≡ width_of self }
     {
         match self {
-            PType::U8 => U8::WIDTH,
-            PType::U16 => U16::WIDTH,
-            PType::U32 => U32::WIDTH,
-            PType::U64 => U64::WIDTH,
-            PType::I8 => I8::WIDTH,
-            PType::I16 => I16::WIDTH,
-            PType::I32 => I32::WIDTH,
-            PType::I64 => I64::WIDTH,
-            PType::F16 => F16::WIDTH,
-            PType::F32 => F32::WIDTH,
-            PType::F64 => F64::WIDTH,
+            PType::U8 | PType::I8 => 1,
+            PType::U16 | PType::I16 | PType::F16 => 2,
+            PType::U32 | PType::I32 | PType::F32 => 4,
+            PType::U64 | PType::I64 | PType::F64 => 8,
         }
     }
 }

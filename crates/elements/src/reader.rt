@@ -1,30 +1,14 @@
 // Numbers as they stand in the data.
-ghost use Rattle.std.specs.Prelude.{◌≡◌, ℕ, ◌+◌, ◌≤◌, true, length};
+ghost use Rattle.std.specs.Prelude.{◌≡◌, ℕ, ◌+◌, ◌≤◌, true, length, take, drop};
 ghost use Rattle.elements.specs.Kinds.{is_width};
 ghost use Rattle.elements.specs.Reading.{pattern_at};
 
-fn read_two(bytes: &[u8], start: usize) -> u16
-    requires { start + 2 ≤ length bytes.now }
-    ensures { result ≡ pattern_at 2 bytes.now start }
+// The N bytes from `start` on.
+fn array_at<const N: usize>(bytes: &[u8], start: usize) -> [u8; N]
+    requires { start + N ≤ length bytes.now }
+    ensures { result ≡ take N (drop start bytes.now) }
 {
-    let d = &bytes[start..start + 2];
-    u16::from_le_bytes([d[0], d[1]])
-}
-
-fn read_four(bytes: &[u8], start: usize) -> u32
-    requires { start + 4 ≤ length bytes.now }
-    ensures { result ≡ pattern_at 4 bytes.now start }
-{
-    let d = &bytes[start..start + 4];
-    u32::from_le_bytes([d[0], d[1], d[2], d[3]])
-}
-
-fn read_eight(bytes: &[u8], start: usize) -> u64
-    requires { start + 8 ≤ length bytes.now }
-    ensures { result ≡ pattern_at 8 bytes.now start }
-{
-    let d = &bytes[start..start + 8];
-    u64::from_le_bytes([d[0], d[1], d[2], d[3], d[4], d[5], d[6], d[7]])
+    <[u8; N]>::try_from(&bytes[start..start + N]).unwrap()
 }
 
 // The pattern in the `width` bytes from `start` on: every number of the data is read here.
@@ -35,8 +19,8 @@ pub(crate) fn read_pattern(bytes: &[u8], start: usize, width: usize) -> u64
 {
     match width {
         1 => bytes[start] as u64,
-        2 => read_two(bytes, start) as u64,
-        4 => read_four(bytes, start) as u64,
-        _ => read_eight(bytes, start),
+        2 => u16::from_le_bytes(array_at(bytes, start)) as u64,
+        4 => u32::from_le_bytes(array_at(bytes, start)) as u64,
+        _ => u64::from_le_bytes(array_at(bytes, start)),
     }
 }
