@@ -1,5 +1,6 @@
 -- What columns of every kind share: which rows are valid, and parts of the data. Assumes nothing.
-use Rattle.std.specs.Prelude.{ℕ, ◌+◌, min, Bool, true, false, ◌||◌, List, [], ◌∷◌, length, take, drop, Some, None, Ok, Err, Option, Result, ◌==◌, nat_lt}
+use Rattle.std.specs.List.{list_any}
+use Rattle.std.specs.Prelude.{ℕ, ◌+◌, min, Bool, true, false, List, length, take, drop, Some, None, Ok, Err, Option, Result, ◌==◌, nat_lt}
 use Rattle.rows.specs.Bits.{bytes_for}
 use Rattle.elements.specs.Reading.{bit_at}
 use Rattle.parts.specs.declared.part.Part.{Part}
@@ -12,6 +13,11 @@ valid_at NonNullable bytes i = true
 valid_at AllValid bytes i = true
 valid_at AllInvalid bytes i = false
 valid_at (Bitmap start) bytes i = bit_at bytes start i == 1
+
+-- the validity by a bitmap that begins at a byte, or by none
+abbrev pub validity_of : Option ℕ → Validity
+validity_of (Some start) = Bitmap start
+validity_of None = NonNullable
 
 -- what the data has of a part
 abbrev pub part_bytes : List ℕ → Part → List ℕ
@@ -38,8 +44,7 @@ part_past bytes p = ends_past bytes p.start p.len
 
 -- one of some parts does
 abbrev pub parts_past : List ℕ → List Part → Bool
-parts_past bytes [] = false
-parts_past bytes (p ∷ ps) = part_past bytes p || parts_past bytes ps
+parts_past bytes ps = list_any (part_past bytes) ps
 
 -- the fault that an answer carries
 abbrev pub fault_of : {A E : Type 0} → Result A E → Option E

@@ -12,10 +12,9 @@ const GREATEST_PLACE: usize = 2_147_483_647;
 pub fn ends_past(bytes: &[u8], start: usize, size: usize) -> bool
     ensures { result ≡ ends_past bytes.now start size }
 {
-    match start.checked_add(size) {
-        Some(end) => end > bytes.len().min(GREATEST_PLACE),
-        None => true,
-    }
+    start
+        .checked_add(size)
+        .is_none_or(|end| end > bytes.len().min(GREATEST_PLACE))
 }
 
 // A buffer or a name: where it starts, and how many bytes it has.
@@ -37,9 +36,8 @@ impl Part {
     pub fn of<'a>(self, bytes: &'a [u8]) -> &'a [u8]
         ensures { result.now ≡ part_bytes bytes.now self }
     {
-        let start = self.start.min(bytes.len());
-        let len = self.len.min(bytes.len() - start);
-        &bytes[start..start + len]
+        let rest = &bytes[self.start.min(bytes.len())..];
+        &rest[..self.len.min(rest.len())]
     }
 }
 
@@ -47,10 +45,5 @@ impl Part {
 pub fn any_ends_past(bytes: &[u8], parts: &[Part]) -> bool
     ensures { result ≡ parts_past bytes.now parts.now }
 {
-    for part in parts {
-        if part.ends_past(bytes) {
-            return true;
-        }
-    }
-    false
+    parts.iter().any(|part| part.ends_past(bytes))
 }

@@ -1,6 +1,6 @@
 // Which rows of a column are valid.
 ghost use Rattle.std.specs.Prelude.{◌≡◌};
-ghost use Rattle.parts.specs.Parts.{valid_at, validity_past};
+ghost use Rattle.parts.specs.Parts.{valid_at, validity_of, validity_past};
 
 use crate::part::ends_past;
 
@@ -33,9 +33,20 @@ impl Validity {
             Validity::NonNullable | Validity::AllValid => true,
             Validity::AllInvalid => false,
             Validity::Bitmap(start) => match start.checked_add(i / 8) {
-                Some(at) => at < bytes.len() && (bytes[at] >> (i % 8)) % 2 == 1,
+                Some(at) => bytes
+                    .get(at)
+                    .is_some_and(|byte| (*byte >> (i % 8)) % 2 == 1),
                 None => false,
             },
         }
+    }
+}
+
+// The validity by a bitmap that begins at a byte of the data, or by none.
+impl From<Option<usize>> for Validity {
+    ghost from_gives = { λ start validity. validity ≡ validity_of start };
+
+    fn from(start: Option<usize>) -> Validity {
+        start.map_or(Validity::NonNullable, Validity::Bitmap)
     }
 }
