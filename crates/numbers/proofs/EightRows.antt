@@ -1,8 +1,7 @@
 -- Bytes of results from bytes of valid rows and of compared keys. Assumes nothing.
-use Rattle.std.proofs.Common.{◌≡◌, ℕ, zero, suc, ◌+◌, ◌-◌, ◌%◌, ◌^◌, ◌<◌, ◌≤◌, Bool, true, false, cond, not, ◌&&◌, ◌||◌, eqb, ltb, ℤ, sym, refl, ap, ◌∙◌, ap₂, arith}
+use Rattle.std.proofs.Common.{◌≡◌, ℕ, zero, suc, ◌+◌, ◌-◌, ◌%◌, ◌^◌, ◌<◌, ◌≤◌, Bool, true, false, cond, not, ◌&&◌, ◌||◌, eqb, List, length, ℤ, sym, refl, ap, ◌∙◌, ap₂, arith}
 use native.Mathlib.Nat.{zero-div}
 use lib.Bits.{bit_and, bit_or, bit_xor}
-use Rattle.std.proofs.lemmas.Bool.{cond-true, lt-ltb}
 use Rattle.std.specs.Ordering.{int_cmp, is_eq, is_lt}
 use Rattle.rows.specs.Bits.{bits}
 use Rattle.rows.specs.Row.{Row, order, row}
@@ -11,14 +10,12 @@ use Rattle.rows.specs.declared.operator.CompareOperator.{CompareOperator}
 use Rattle.rows.proofs.BitLaws.{bits_same, bits_and, bits_or, bits_xor, bits_not, bits_of}
 use Rattle.rows.proofs.Collections.{mirrors}
 use Rattle.rows.proofs.Orders.{row_order}
-use Rattle.numbers.specs.Columns.{cell, cells}
+use Rattle.parts.specs.declared.validity.Validity.{Validity}
+use Rattle.parts.specs.Parts.{valid_at}
+use Rattle.elements.specs.declared.ptype.PType.{PType}
+use Rattle.numbers.specs.Columns.{cell, key_at, number_rows}
 use Rattle.numbers.specs.Eights.{bit, eighth}
-use Rattle.numbers.proofs.Cells.{row_cell}
-
--- what was packed of results that are known below eight
-pub packed_below : (f : ℕ → Bool) (e : ℕ) → e ≡ bits (λ b. cond (ltb b 8) (f b) false) 0 8 → e ≡ bits f 0 8
-packed_below f e h =
-    h ∙ bits_same (λ b. cond (ltb b 8) (f b) false) f 0 0 8 (λ k l. let lt : 0 + k < 8 = omega arith in cond-true (ltb (0 + k) 8) (f (0 + k)) false (lt-ltb (0 + k) 8 lt))
+use Rattle.numbers.proofs.Cells.{row_cell, cells_length}
 
 -- ---- one row
 
@@ -91,6 +88,10 @@ spread op e s f g F G h left right =
     (λ b l. let at : 0 + b ≡ b = omega arith in ap (λ j. holds op (order (f j) (g j))) at ∙ ap₂ (λ x y. holds op (order x y)) (left b l) (right b l))
 
 -- row b of eight is row s + b of its column
-pub in_column : (valid : ℕ → Bool) (key : ℕ → ℤ) (n s v : ℕ) (keys : ℕ → ℤ) → s + 8 ≤ n → ((b : ℕ) → b < 8 → bit v b ≡ valid (s + b)) → ((b : ℕ) → b < 8 → keys b ≡ key (s + b))
-    → (b : ℕ) → b < 8 → eighth v keys b ≡ row (cells valid key n) (s + b)
-in_column valid key n s v keys h vs ks b l = ap₂ cell (vs b l) (ks b l) ∙ sym (row_cell valid key n (s + b) (omega arith))
+pub in_column : (p : PType) (bytes : List ℕ) (start : ℕ) (validity : Validity) (n s v : ℕ) (keys : ℕ → ℤ) → s + 8 ≤ length (number_rows p bytes start validity n)
+    → ((b : ℕ) → b < 8 → bit v b ≡ valid_at validity bytes (s + b)) → ((b : ℕ) → keys b ≡ key_at p bytes start (s + b))
+    → (b : ℕ) → b < 8 → eighth v keys b ≡ row (number_rows p bytes start validity n) (s + b)
+in_column p bytes start validity n s v keys h vs ks b l =
+    let valid = valid_at validity bytes in
+    let key = key_at p bytes start in
+    ap₂ cell (vs b l) (ks b) ∙ sym (row_cell valid key n (s + b) (omega (arith, h, cells_length valid key n)))

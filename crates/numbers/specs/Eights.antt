@@ -6,7 +6,7 @@ use Rattle.elements.specs.declared.ptype.PType.{PType}
 use Rattle.elements.specs.declared.ptype.Class.{Class}
 use Rattle.elements.specs.declared.ptype.Class.TheVariants.{Unsigned, Signed, Float}
 use Rattle.elements.specs.Kinds.{class_of, width_of}
-use Rattle.elements.specs.Keys.{key_of, sign_bit}
+use Rattle.elements.specs.Keys.{sign_bit}
 use Rattle.elements.specs.Reading.{pattern_at}
 use Rattle.numbers.specs.Columns.{cell}
 
@@ -14,9 +14,9 @@ use Rattle.numbers.specs.Columns.{cell}
 abbrev pub bit : ℕ → ℕ → Bool
 bit byte b = byte / 2 ^ b % 2 == 1
 
--- key b of some
-abbrev pub nth : List ℤ → ℕ → ℤ
-nth keys b = slice_index_or keys b (pos 0)
+-- key b of eight that were read
+abbrev pub key_of_lane : List ℤ → ℕ → ℤ
+key_of_lane keys b = slice_index_or keys b (pos 0)
 
 -- row b of eight: null where its bit is clear
 abbrev pub eighth : ℕ → (ℕ → ℤ) → ℕ → Row
@@ -30,9 +30,6 @@ at width start fixed b = start + cond fixed 0 (width * b)
 
 abbrev pub element : ℕ → List ℕ → ℕ → Bool → ℕ → ℕ
 element width bytes start fixed b = pattern_at width bytes (at width start fixed b)
-
-abbrev pub element_key : PType → List ℕ → ℕ → Bool → ℕ → ℤ
-element_key p bytes start fixed b = key_of p (element (width_of p) bytes start fixed b)
 
 -- they lie in the data
 abbrev pub LieIn : ℕ → List ℕ → ℕ → Bool → Type 0

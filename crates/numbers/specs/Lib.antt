@@ -1,2 +1,4 @@
 pub mod Columns
+pub mod Column
 pub mod Eights
+pub mod Eight

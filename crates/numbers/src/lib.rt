@@ -5,5 +5,5 @@ pub mod column;
 mod eight;
 mod lanes;
 pub mod numbers;
-mod same;
-pub mod validity;
+mod pairs;
+mod reading;

@@ -1,36 +1,34 @@
 // The comparator of two number columns.
 ghost use Rattle.std.specs.Prelude.{◌≡◌};
-ghost use Rattle.numbers.specs.Columns.{column_rows};
+ghost use Rattle.numbers.specs.Column.{rows_of};
 
 use crate::column::NumberColumn;
-use crate::eight::{KeyPairs, eight_results};
-use crate::lanes::{Beside, Fixed, eight_keys};
-use crate::same::element_results;
+use crate::pairs::compare_eight;
 use elements::kind::ElementKind;
 use rows::comparator::RowComparator;
-use rows::operator::FixedOperator;
+use rows::operator::CompareOperator;
 use std::cmp::Ordering;
 
 // Each side is of any element kind. Where the kinds differ, the keys meet.
 #[derive(Drop)]
-pub struct Numbers<'a, L, R> {
+pub struct Numbers<'a, L: ElementKind, R: ElementKind> {
     left: NumberColumn<'a, L>,
     right: NumberColumn<'a, R>,
 }
 
 impl<'a, L: ElementKind, R: ElementKind> Numbers<'a, L, R> {
     pub fn new(left: NumberColumn<'a, L>, right: NumberColumn<'a, R>) -> Numbers<'a, L, R>
-        ensures left_list { column_rows L.kind result.left.bytes.now result.left.start result.left.validity result.left.len ≡ column_rows L.kind left.entry.bytes.now left.entry.start left.entry.validity left.entry.len }
-        ensures right_list { column_rows R.kind result.right.bytes.now result.right.start result.right.validity result.right.len ≡ column_rows R.kind right.entry.bytes.now right.entry.start right.entry.validity right.entry.len }
+        ensures left_list { rows_of result.left ≡ rows_of left.entry }
+        ensures right_list { rows_of result.right ≡ rows_of right.entry }
     {
         Numbers { left, right }
     }
 }
 
 impl<'a, L: ElementKind, R: ElementKind> RowComparator for Numbers<'a, L, R> {
-    ghost left = { λ s. column_rows L.kind s.left.bytes.now s.left.start s.left.validity s.left.len };
+    ghost left = { λ s. rows_of s.left };
 
-    ghost right = { λ s. column_rows R.kind s.right.bytes.now s.right.start s.right.validity s.right.len };
+    ghost right = { λ s. rows_of s.right };
 
     fn left_len(&self) -> usize {
         self.left.rows()
@@ -44,30 +42,22 @@ impl<'a, L: ElementKind, R: ElementKind> RowComparator for Numbers<'a, L, R> {
         self.left.get(i).cmp(&self.right.get(j))
     }
 
-    // Keys have no faster way.
-    fn same(&self, _i: usize) -> Option<bool> {
-        None
+    #[inline(always)]
+    #[tactic(auto, using(crate::proofs::Cells::cells_length))]
+    fn whole(&self, op: CompareOperator, k: usize) -> Option<u8> {
+        let (left, left_valid) = (self.left.eight(k), self.left.valid_byte(k));
+        let (right, right_valid) = (self.right.eight(k), self.right.valid_byte(k));
+        Some(compare_eight(op, &left, left_valid, &right, right_valid))
     }
 
-    fn whole<O: FixedOperator>(&self, k: usize) -> Option<u8> {
-        let left_valid = self.left.valid_byte(k);
-        let right_valid = self.right.valid_byte(k);
-        let left = self.left.eight(k);
-        let right = self.right.eight(k);
-        Some(element_results::<O, L, R, Beside>(left_valid, right_valid, left, right))
-    }
-
-    fn against<O: FixedOperator>(&self, k: usize, j: usize) -> Option<u8> {
-        let left_valid = self.left.valid_byte(k);
-        let left = self.left.eight(k);
-        match self.right.repeated(j) {
-            Some(right) => Some(element_results::<O, L, R, Fixed>(left_valid, 255, left, right)),
+    #[inline(always)]
+    #[tactic(auto, using(crate::proofs::Cells::cells_length))]
+    fn against(&self, op: CompareOperator, k: usize, j: usize) -> Option<u8> {
+        let (left, left_valid) = (self.left.eight(k), self.left.valid_byte(k));
+        Some(match self.right.repeated(j) {
+            Some(right) => compare_eight(op, &left, left_valid, &right, 255),
             // A null row has no key: any will do.
-            None => {
-                let left = eight_keys::<L, Beside>(&left);
-                let right = left;
-                Some(eight_results::<O, KeyPairs>(left_valid, 0, &KeyPairs { left, right }))
-            }
-        }
+            None => compare_eight(op, &left, left_valid, &left, 0),
+        })
     }
 }

@@ -1,5 +1,5 @@
 use Rattle.std.proofs.Common.{◌≡◌, ◌+◌, ◌*◌, true, sym, ap, ◌∙◌, ⊎_elim}
-use Rattle.numbers.specs.Columns.{valid_at}
+use Rattle.parts.specs.Parts.{valid_at}
 use Rattle.numbers.proofs.EightRows.{all_set}
 use Rattle.numbers.proofs.column.NumberColumn.valid_byte.Goals as goal
 
