@@ -2,8 +2,8 @@
 use Rattle.std.proofs.Common.{◌≡◌, ℕ, ◌/◌, ◌%◌, ◌^◌, ◌<◌, ◌≤◌, min, Bool, true, false, eqb, List, [], ◌∷◌, ◌++◌, length, drop, Ordering, Less, Equal, Greater, sym, refl, ap, ◌∙◌, subst, ap₂, true≢false, arith}
 use Rattle.std.proofs.lemmas.List.{drop-drop}
 use Rattle.std.proofs.lemmas.Bool.{eqb-true, eq-eqb}
-use Rattle.std.specs.Ordering.{MatchOrdering, is_eq, nat_cmp, ordering_then}
-use Rattle.std.specs.Cmp.{ranks, nat_cmp_is}
+use Rattle.std.specs.Ordering.{is_eq, nat_cmp, ordering_then}
+use Rattle.std.proofs.lemmas.Map.Lookups.{exact_bytes, exact_unsigned}
 use Rattle.std.specs.Int.Digits.{number_from_digits}
 use Rattle.elements.specs.Reading.{little_endian}
 use Rattle.views.specs.declared.view.View.{View}
@@ -11,15 +11,9 @@ use Rattle.views.specs.View.{view_bytes, size_of, prefix_of}
 use Rattle.views.specs.Window.{window, byte_order}
 use Rattle.views.specs.Words.{Whole, Words}
 use Rattle.views.proofs.Words.{length_prefix, under_prefix, length_tail, under_tail, split, size_word, prefix_word, prefix_from, tail_from, high_from, size_from}
-use Rattle.views.proofs.Windows.{lexed, by_lex, rank_eq, numbers, same_numbers, lex_same, lex_itself, lex_differ, lex_tie}
+use Rattle.views.proofs.Windows.{lexed, by_lex, rank_eq, numbers, same_numbers, lex_differ, lex_tie}
 
 -- ---- answers
-
-pub rank_says : (a b : ℕ) (r : Ordering) → MatchOrdering r (a < b) (a ≡ b) (b < a) → r ≡ nat_cmp a b
-rank_says a b r h = nat_cmp_is a b r h
-
-rank_same : (a b : ℕ) → nat_cmp a b ≡ Equal → a ≡ b
-rank_same a b e = subst (λ o. MatchOrdering o (a < b) (a ≡ b) (b < a)) e (ranks a b)
 
 not_equal : (o : Ordering) → (o ≡ Equal → ⊥) → false ≡ is_eq o
 not_equal Less n = refl
@@ -27,20 +21,25 @@ not_equal Equal n = absurd (n refl)
 not_equal Greater n = refl
 
 pub differ_answer : (xs ys : List ℕ) → (xs ≡ ys → ⊥) → false ≡ is_eq (byte_order xs ys)
-differ_answer xs ys n = not_equal (byte_order xs ys) (λ e. n (lex_same xs ys (sym (by_lex xs ys) ∙ e)))
-
-pub same_answer : (xs ys : List ℕ) → xs ≡ ys → true ≡ is_eq (byte_order xs ys)
-same_answer xs ys e = sym (ap is_eq (by_lex xs ys ∙ ap (λ zs. lexed xs zs) (sym e) ∙ lex_itself xs))
+differ_answer xs ys n = not_equal (byte_order xs ys) (λ e. n (exact_bytes xs ys (sym (by_lex xs ys) ∙ e)))
 
 pub lex_shared : (front xs ys : List ℕ) → lexed (front ++ xs) (front ++ ys) ≡ lexed xs ys
 lex_shared [] xs ys = refl
 lex_shared (x ∷ front) xs ys = ap (λ o. ordering_then o (lexed (front ++ xs) (front ++ ys))) (rank_eq x x refl) ∙ lex_shared front xs ys
 
+-- ---- words as numbers
+
+abbrev pub prefixes : View → View → Ordering
+prefixes u v = nat_cmp (number_from_digits 256 (prefix_of (view_bytes u))) (number_from_digits 256 (prefix_of (view_bytes v)))
+
+abbrev pub tails : View → View → Ordering
+tails u v = nat_cmp (number_from_digits 256 (drop 8 (view_bytes u))) (number_from_digits 256 (drop 8 (view_bytes v)))
+
 -- first four bytes that tie are one
-pub one_prefix : (u v : View) (p q : ℕ) (r : Ordering) → p ≡ number_from_digits 256 (prefix_of (view_bytes u)) → q ≡ number_from_digits 256 (prefix_of (view_bytes v)) → MatchOrdering r (p < q) (p ≡ q) (q < p) → r ≡ Equal → prefix_of (view_bytes u) ≡ prefix_of (view_bytes v)
-one_prefix u v p q r is_p is_q h e =
+pub one_prefix : (u v : View) (r : Ordering) → r ≡ prefixes u v → r ≡ Equal → prefix_of (view_bytes u) ≡ prefix_of (view_bytes v)
+one_prefix u v r h e =
     same_numbers (prefix_of (view_bytes u)) (prefix_of (view_bytes v)) (under_prefix u) (under_prefix v) (length_prefix u ∙ sym (length_prefix v))
-    (sym is_p ∙ rank_same p q (sym (rank_says p q r h) ∙ e) ∙ is_q)
+    (exact_unsigned _ _ (sym h ∙ e))
 
 -- ---- the first twelve, where the words hold them and the first four tie
 
@@ -54,22 +53,21 @@ module _ (u v : View) (xs ys : List ℕ) (front : prefix_of (view_bytes u) ≡ p
   one_window e = left ∙ split u ∙ ap₂ ◌++◌ front e ∙ sym (split v) ∙ sym right
 
   -- the tails decide where they differ
-  pub by_tail : (p q : ℕ) (r : Ordering) → p ≡ number_from_digits 256 (drop 8 (view_bytes u)) → q ≡ number_from_digits 256 (drop 8 (view_bytes v)) → MatchOrdering r (p < q) (p ≡ q) (q < p) → (r ≡ Equal → ⊥) → r ≡ byte_order xs ys
-  by_tail p q r is_p is_q h n =
-      let tails : nat_cmp (number_from_digits 256 (drop 8 (view_bytes u))) (number_from_digits 256 (drop 8 (view_bytes v))) ≡ lexed (drop 8 (view_bytes u)) (drop 8 (view_bytes v)) =
-      numbers (drop 8 (view_bytes u)) (drop 8 (view_bytes v)) (under_tail u) (under_tail v) (length_tail u ∙ sym (length_tail v)) in
-      let is : r ≡ lexed (window 12 xs) (window 12 ys) = rank_says p q r h ∙ ap₂ nat_cmp is_p is_q ∙ tails ∙ sym whole_words in
+  pub by_tail : (r : Ordering) → r ≡ tails u v → (r ≡ Equal → ⊥) → r ≡ byte_order xs ys
+  by_tail r h n =
+      let words : tails u v ≡ lexed (drop 8 (view_bytes u)) (drop 8 (view_bytes v)) = numbers (drop 8 (view_bytes u)) (drop 8 (view_bytes v)) (under_tail u) (under_tail v) (length_tail u ∙ sym (length_tail v)) in
+      let is : r ≡ lexed (window 12 xs) (window 12 ys) = h ∙ words ∙ sym whole_words in
       is ∙ sym (lex_differ 12 xs ys (λ e. n (is ∙ e))) ∙ sym (by_lex xs ys)
 
   -- where they tie, the first twelve bytes are one
-  pub one_tail : (p q : ℕ) (r : Ordering) → p ≡ number_from_digits 256 (drop 8 (view_bytes u)) → q ≡ number_from_digits 256 (drop 8 (view_bytes v)) → MatchOrdering r (p < q) (p ≡ q) (q < p) → r ≡ Equal → window 12 xs ≡ window 12 ys
-  one_tail p q r is_p is_q h e =
+  pub one_tail : (r : Ordering) → r ≡ tails u v → r ≡ Equal → window 12 xs ≡ window 12 ys
+  one_tail r h e =
       one_window (same_numbers (drop 8 (view_bytes u)) (drop 8 (view_bytes v)) (under_tail u) (under_tail v) (length_tail u ∙ sym (length_tail v))
-      (sym is_p ∙ rank_same p q (sym (rank_says p q r h) ∙ e) ∙ is_q))
+      (exact_unsigned _ _ (sym h ∙ e)))
 
 -- then the lengths decide
-pub by_size : (xs ys : List ℕ) (a b : ℕ) (r : Ordering) → MatchOrdering r (a < b) (a ≡ b) (b < a) → a ≡ length xs → b ≡ length ys → window 12 xs ≡ window 12 ys → length xs ≤ 12 → r ≡ byte_order xs ys
-by_size xs ys a b r k is_a is_b e h = rank_says a b r k ∙ ap₂ nat_cmp is_a is_b ∙ sym (lex_tie 12 xs ys e h) ∙ sym (by_lex xs ys)
+pub by_size : (xs ys : List ℕ) (a b : ℕ) → a ≡ length xs → b ≡ length ys → window 12 xs ≡ window 12 ys → length xs ≤ 12 → nat_cmp a b ≡ byte_order xs ys
+by_size xs ys a b is_a is_b e h = ap₂ nat_cmp is_a is_b ∙ sym (lex_tie 12 xs ys e h) ∙ sym (by_lex xs ys)
 
 -- ---- two views, and the values that their words tell of
 
@@ -86,15 +84,15 @@ module _ (u v : View) (xs ys : List ℕ) (us : Words (view_bytes u) xs) (vs : Wo
 
   -- ---- the first four bytes
 
-  prefix_words : nat_cmp (number_from_digits 256 (prefix_of (view_bytes u))) (number_from_digits 256 (prefix_of (view_bytes v))) ≡ lexed (window 4 xs) (window 4 ys)
+  prefix_words : prefixes u v ≡ lexed (window 4 xs) (window 4 ys)
   prefix_words =
       numbers (prefix_of (view_bytes u)) (prefix_of (view_bytes v)) (under_prefix u) (under_prefix v) (length_prefix u ∙ sym (length_prefix v))
       ∙ ap₂ lexed (sym us.prefixed) (sym vs.prefixed)
 
   -- where they differ, they decide
-  pub by_prefix : (p q : ℕ) (r : Ordering) → p ≡ number_from_digits 256 (prefix_of (view_bytes u)) → q ≡ number_from_digits 256 (prefix_of (view_bytes v)) → MatchOrdering r (p < q) (p ≡ q) (q < p) → (r ≡ Equal → ⊥) → r ≡ byte_order xs ys
-  by_prefix p q r is_p is_q h n =
-      let is : r ≡ lexed (window 4 xs) (window 4 ys) = rank_says p q r h ∙ ap₂ nat_cmp is_p is_q ∙ prefix_words in
+  pub by_prefix : (r : Ordering) → r ≡ prefixes u v → (r ≡ Equal → ⊥) → r ≡ byte_order xs ys
+  by_prefix r h n =
+      let is : r ≡ lexed (window 4 xs) (window 4 ys) = h ∙ prefix_words in
       is ∙ sym (lex_differ 4 xs ys (λ e. n (is ∙ e))) ∙ sym (by_lex xs ys)
 
   short_length : size_of (view_bytes u) ≤ 12 → length xs ≤ 12

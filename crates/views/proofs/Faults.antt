@@ -1,7 +1,7 @@
 -- What is wrong with a view, and what holds of one that is well-formed. Assumes nothing.
 use Rattle.std.proofs.Common.{◌≡◌, ℕ, zero, suc, ◌+◌, ◌-◌, ◌<◌, ◌≤◌, Bool, true, false, cond, not, ◌&&◌, eqb, ltb, leb, List, [], ◌∷◌, length, get_or, take, drop, is_some, Some, None, Option, sym, refl, ap, ◌∙◌, subst, ⊎_elim, true≢false, arith}
-use Rattle.std.proofs.lemmas.List.{length-take, length-drop, drop-drop, drop_more, drop_all, get_or-drop}
-use Rattle.std.proofs.lemmas.Bool.{le-leb, lt-leb, lt-ltb, le-ltb, leb-false, ltb-false, cond-true, cond-false, eqb-true, and_parts, and_from, cases_lt, eq-eqb, ne_eqb}
+use Rattle.std.proofs.lemmas.List.{length-take, length-drop, drop-drop, get_or-drop}
+use Rattle.std.proofs.lemmas.Bool.{le-leb, lt-leb, lt-ltb, le-ltb, leb-false, ltb-false, cond-true, cond-false, eqb-true, and_parts, and_from, cases_lt, eq-eqb}
 use Rattle.std.proofs.lemmas.Slice.Eq.{bytes_eq-Decides}
 use Rattle.std.specs.Str.{bytes_eq}
 use Rattle.faults.specs.declared.ViewFault.{ViewFault}
@@ -43,24 +43,11 @@ module _ (bytes : List ℕ) (buffers : List Part) (w : List ℕ) where
   if_long : 12 < size_of w → view_fault bytes buffers w ≡ chain false true zeros unlisted past same
   if_long h = is_chain false true (lt-leb (size_of w) 12 h) (lt-ltb 12 (size_of w) h)
 
-  pub fault_index : 12 < size_of w → length buffers ≤ index_of w → Some Index ≡ view_fault bytes buffers w
-  fault_index h i = sym (if_long h ∙ ap (λ b. chain false true zeros b past same) (le-leb (length buffers) (index_of w) i))
-
   listed : 12 < size_of w → index_of w < length buffers → view_fault bytes buffers w ≡ chain false true zeros false past same
   listed h i = if_long h ∙ ap (λ b. chain false true zeros b past same) (lt-leb (length buffers) (index_of w) i)
 
-  pub fault_end : 12 < size_of w → index_of w < length buffers → length (buffer_of bytes buffers w) < offset_of w + size_of w → Some End ≡ view_fault bytes buffers w
-  fault_end h i l = sym (listed h i ∙ ap (λ b. chain false true zeros false b same) (lt-ltb (length (buffer_of bytes buffers w)) (offset_of w + size_of w) l))
-
   inside : 12 < size_of w → index_of w < length buffers → offset_of w + size_of w ≤ length (buffer_of bytes buffers w) → view_fault bytes buffers w ≡ chain false true zeros false false same
   inside h i l = listed h i ∙ ap (λ b. chain false true zeros false b same) (le-ltb (length (buffer_of bytes buffers w)) (offset_of w + size_of w) l)
-
-  pub fault_prefix : 12 < size_of w → index_of w < length buffers → offset_of w + size_of w ≤ length (buffer_of bytes buffers w) → (prefix_of w ≡ take 4 (long_value bytes buffers w) → ⊥) → Some Prefix ≡ view_fault bytes buffers w
-  fault_prefix h i l n = sym (inside h i l ∙ ap (λ b. chain false true zeros false false b) (not_same same (λ t. n ((bytes_eq-Decides (prefix_of w) (take 4 (long_value bytes buffers w))).0 t))))
-    where
-      not_same : (b : Bool) → (b ≡ true → ⊥) → b ≡ false
-      not_same true f = absurd (f refl)
-      not_same false f = refl
 
   pub fault_none : 12 < size_of w → index_of w < length buffers → offset_of w + size_of w ≤ length (buffer_of bytes buffers w) → prefix_of w ≡ take 4 (long_value bytes buffers w) → None ≡ view_fault bytes buffers w
   fault_none h i l e = sym (inside h i l ∙ ap (λ b. chain false true zeros false false b) ((bytes_eq-Decides (prefix_of w) (take 4 (long_value bytes buffers w))).1 e))
@@ -96,15 +83,6 @@ module _ (bytes : List ℕ) (buffers : List Part) (w : List ℕ) where
   value_long h = cond-false (leb (size_of w) 12) (short_value w) (long_value bytes buffers w) (lt-leb (size_of w) 12 h)
 
 -- ---- the padding, byte by byte
-
-pub zero_step : (xs : List ℕ) (i : ℕ) → i < length xs → get_or xs i 0 ≡ 0 → all_zero (drop i xs) ≡ all_zero (drop (i + 1) xs)
-zero_step xs i h e = ap all_zero (drop_more xs i 0 h) ∙ ap (λ b. b && all_zero (drop (i + 1) xs)) (eq-eqb (get_or xs i 0) 0 e)
-
-pub zero_stop : (xs : List ℕ) (i : ℕ) → i < length xs → (get_or xs i 0 ≡ 0 → ⊥) → all_zero (drop i xs) ≡ false
-zero_stop xs i h n = ap all_zero (drop_more xs i 0 h) ∙ ap (λ b. b && all_zero (drop (i + 1) xs)) (ne_eqb (get_or xs i 0) 0 n)
-
-pub zero_end : (xs : List ℕ) (i : ℕ) → length xs ≤ i → all_zero (drop i xs) ≡ true
-zero_end xs i h = ap all_zero (drop_all i xs h)
 
 zero_at : (xs : List ℕ) → all_zero xs ≡ true → (k : ℕ) → get_or xs k 0 ≡ 0
 zero_at [] z k = refl

@@ -1,15 +1,16 @@
 -- Byte strings by their fronts. Assumes nothing.
-use Rattle.std.proofs.Common.{◌≡◌, ℕ, zero, suc, ◌+◌, ◌-◌, ◌<◌, ◌≤◌, min, Bool, eqb, List, [], ◌∷◌, ◌++◌, length, take, drop, Ordering, Less, Equal, Greater, sym, refl, ap, ◌∙◌, ap₂, true≢false, arith}
-use Rattle.std.proofs.lemmas.List.{take_all, take-append-drop, take-take, drop-take, length-drop, length-take}
+use Rattle.std.proofs.Common.{◌≡◌, ℕ, zero, suc, ◌+◌, ◌-◌, ◌≤◌, min, eqb, List, [], ◌∷◌, ◌++◌, length, take, drop, Ordering, Less, Equal, Greater, sym, refl, ap, ◌∙◌, ap₂, true≢false, arith}
+use Rattle.std.proofs.lemmas.List.{take-append-drop, take-take, drop-take, length-drop, length-take}
 use Rattle.std.proofs.lemmas.Bool.{ne_eqb}
-use Rattle.std.specs.Ordering.{MatchOrdering, is_eq, is_gt, is_lt, nat_cmp, ordering_then}
+use Rattle.std.specs.Ordering.{is_eq, is_gt, is_lt, nat_cmp, ordering_then}
+use Rattle.std.proofs.lemmas.Map.Lookups.{exact_bytes}
 use Rattle.std.specs.Int.Digits.{number_from_digits, AllBelowBase}
 use Rattle.elements.specs.Reading.{le_bytes, pattern_at}
 use Rattle.elements.proofs.LittleEndian.{le_under, pattern_bytes}
 use Rattle.views.specs.Window.{byte_order, window}
-use Rattle.views.proofs.Decisions.{lex_shared, rank_says, differ_answer}
+use Rattle.views.proofs.Decisions.{lex_shared, differ_answer}
 use Rattle.views.proofs.Faults.{window_take}
-use Rattle.views.proofs.Windows.{lexed, by_lex, lex_differ, lex_same, numbers, rank_lt, rank_eq, rank_gt, rank_suc}
+use Rattle.views.proofs.Windows.{lexed, by_lex, lex_differ, numbers, rank_lt, rank_eq, rank_gt, rank_suc}
 
 -- fronts that are one leave the order to what follows
 pub lex_front : (k : ℕ) (xs ys : List ℕ) → take k xs ≡ take k ys → lexed xs ys ≡ lexed (drop k xs) (drop k ys)
@@ -35,12 +36,10 @@ lex_common (suc n) (x ∷ xs) (y ∷ ys) e t =
 
 -- ---- eight bytes as a number
 
-pub by_word : (xs ys : List ℕ) (at p q : ℕ) (r : Ordering) → AllBelowBase 256 xs → AllBelowBase 256 ys → at + 8 ≤ length xs → at + 8 ≤ length ys
-    → p ≡ number_from_digits 256 (le_bytes 8 (pattern_at 8 xs at)) → q ≡ number_from_digits 256 (le_bytes 8 (pattern_at 8 ys at)) → MatchOrdering r (p < q) (p ≡ q) (q < p)
-    → r ≡ byte_order (take 8 (drop at xs)) (take 8 (drop at ys))
-by_word xs ys at p q r u v h k is_p is_q ranked =
-    rank_says p q r ranked ∙ ap₂ nat_cmp is_p is_q
-    ∙ numbers (le_bytes 8 (pattern_at 8 xs at)) (le_bytes 8 (pattern_at 8 ys at)) (le_under 8 (pattern_at 8 xs at)) (le_under 8 (pattern_at 8 ys at)) refl
+pub by_word : (xs ys : List ℕ) (at : ℕ) → AllBelowBase 256 xs → AllBelowBase 256 ys → at + 8 ≤ length xs → at + 8 ≤ length ys
+    → nat_cmp (number_from_digits 256 (le_bytes 8 (pattern_at 8 xs at))) (number_from_digits 256 (le_bytes 8 (pattern_at 8 ys at))) ≡ byte_order (take 8 (drop at xs)) (take 8 (drop at ys))
+by_word xs ys at u v h k =
+    numbers (le_bytes 8 (pattern_at 8 xs at)) (le_bytes 8 (pattern_at 8 ys at)) (le_under 8 (pattern_at 8 xs at)) (le_under 8 (pattern_at 8 ys at)) refl
     ∙ ap₂ lexed (pattern_bytes 8 xs at u h) (pattern_bytes 8 ys at v k) ∙ sym (by_lex (take 8 (drop at xs)) (take 8 (drop at ys)))
 
 -- ---- the first n bytes, w at a time
@@ -70,7 +69,7 @@ module _ (w n : ℕ) (xs ys : List ℕ) (hx : n ≤ length xs) (hy : n ≤ lengt
 
   -- a word that ties: so many more bytes are one
   pub goes_on : (k : ℕ) → k + w ≤ n → take k xs ≡ take k ys → Equal ≡ byte_order (take w (drop k xs)) (take w (drop k ys)) → take (k + w) xs ≡ take (k + w) ys
-  goes_on k h e t = take_add k w xs ∙ ap₂ ◌++◌ e (lex_same (take w (drop k xs)) (take w (drop k ys)) (sym (by_lex (take w (drop k xs)) (take w (drop k ys))) ∙ sym t)) ∙ sym (take_add k w ys)
+  goes_on k h e t = take_add k w xs ∙ ap₂ ◌++◌ e (exact_bytes (take w (drop k xs)) (take w (drop k ys)) (sym (by_lex (take w (drop k xs)) (take w (drop k ys))) ∙ sym t)) ∙ sym (take_add k w ys)
 
   -- the last word, behind bytes that are one
   pub ends : (k at : ℕ) (r : Ordering) → k + w ≡ n → k ≤ at → take at xs ≡ take at ys → r ≡ byte_order (take w (drop k xs)) (take w (drop k ys)) → r ≡ byte_order (take n xs) (take n ys)
@@ -100,14 +99,14 @@ two_parts a b k xs ys p q hx hy l is_p is_q = by p (is_p ∙ by_lex (take a xs) 
     by : (o : Ordering) → o ≡ lexed (take a xs) (take a ys) → ordering_then o q ≡ lexed (take (a + b) xs) (take (a + b) ys)
     by Less e = first Less e (λ t. true≢false (ap is_lt t))
     by Equal e =
-        let same : take a xs ≡ take a ys = lex_same (take a xs) (take a ys) (sym e) in
+        let same : take a xs ≡ take a ys = exact_bytes (take a xs) (take a ys) (sym e) in
         let front : take k (take (a + b) xs) ≡ take k (take (a + b) ys) = take-take k (a + b) xs (omega arith) ∙ sym (take-take k a xs l) ∙ ap (take k) same ∙ take-take k a ys l ∙ sym (take-take k (a + b) ys (omega arith)) in
         is_q ∙ by_lex (take (a + b - k) (drop k xs)) (take (a + b - k) (drop k ys)) ∙ ap₂ lexed (sym (rest xs)) (sym (rest ys)) ∙ sym (lex_front k (take (a + b) xs) (take (a + b) ys) front)
     by Greater e = first Greater e (λ t. true≢false (ap is_gt t))
 
 -- ---- whole strings, by all that both have
 
-pub then_lengths : (n : ℕ) (xs ys : List ℕ) (r sizes : Ordering) → n ≡ min (length xs) (length ys) → r ≡ byte_order (take n xs) (take n ys) → MatchOrdering sizes (length xs < length ys) (length xs ≡ length ys) (length ys < length xs) → ordering_then r sizes ≡ byte_order xs ys
+pub then_lengths : (n : ℕ) (xs ys : List ℕ) (r sizes : Ordering) → n ≡ min (length xs) (length ys) → r ≡ byte_order (take n xs) (take n ys) → sizes ≡ nat_cmp (length xs) (length ys) → ordering_then r sizes ≡ byte_order xs ys
 then_lengths n xs ys r sizes m is s = by r (is ∙ by_lex (take n xs) (take n ys)) ∙ sym (by_lex xs ys)
   where
     first : (o : Ordering) → o ≡ lexed (take n xs) (take n ys) → (o ≡ Equal → ⊥) → o ≡ lexed xs ys
@@ -115,11 +114,8 @@ then_lengths n xs ys r sizes m is s = by r (is ∙ by_lex (take n xs) (take n ys
 
     by : (o : Ordering) → o ≡ lexed (take n xs) (take n ys) → ordering_then o sizes ≡ lexed xs ys
     by Less e = first Less e (λ t. true≢false (ap is_lt t))
-    by Equal e = rank_says (length xs) (length ys) sizes s ∙ sym (lex_common n xs ys m (lex_same (take n xs) (take n ys) (sym e)))
+    by Equal e = s ∙ sym (lex_common n xs ys m (exact_bytes (take n xs) (take n ys) (sym e)))
     by Greater e = first Greater e (λ t. true≢false (ap is_gt t))
-
-pub all_same : (xs ys : List ℕ) (b : Bool) (r : Ordering) → length xs ≡ length ys → b ≡ is_eq r → r ≡ byte_order (take (length xs) xs) (take (length xs) ys) → b ≡ is_eq (byte_order xs ys)
-all_same xs ys b r l e is = e ∙ ap is_eq (is ∙ ap₂ byte_order (take_all (length xs) xs (omega arith)) (take_all (length xs) ys (omega arith)))
 
 pub other_length : (xs ys : List ℕ) → (length xs ≡ length ys → ⊥) → eqb (length xs) (length ys) ≡ is_eq (byte_order xs ys)
 other_length xs ys n = ne_eqb (length xs) (length ys) n ∙ differ_answer xs ys (λ e. n (ap length e))

@@ -2,19 +2,20 @@
 use Rattle.std.proofs.Common.{◌≡◌, ℕ, ◌<◌, ◌⊎◌, List, [], ◌∷◌, ◌++◌, Ordering, Less, Equal, Greater, sym, refl, ap, ◌∙◌, ap₂, inl, inr, true≢false}
 use Rattle.std.specs.Ordering.{MatchOrdering, is_lt, nat_cmp, ordering_then}
 use Rattle.std.specs.Cmp.{ranks}
+use Rattle.std.proofs.lemmas.Map.Lookups.{exact_bytes}
 use Rattle.rows.specs.Laws.{Lawful}
 use Rattle.rows.specs.Row.{text}
 use Rattle.rows.proofs.Orders.{stands}
 use Rattle.views.specs.Window.{byte_order, Beginning, SmallerByte, TextOrder}
 use Rattle.views.proofs.Decisions.{lex_shared}
-use Rattle.views.proofs.Windows.{lexed, by_lex, lex_same, rank_lt, rank_eq}
+use Rattle.views.proofs.Windows.{lexed, by_lex, rank_lt, rank_eq}
 
 lawful : Lawful byte_order
 lawful = record {
   itself = λ a. stands.lawful.itself (text a);
   flip = λ a b. stands.lawful.flip (text a) (text b);
   trans = λ a b c. stands.lawful.trans (text a) (text b) (text c);
-  same = λ a b e. lex_same a b (sym (by_lex a b) ∙ e);
+  same = λ a b e. exact_bytes a b (sym (by_lex a b) ∙ e);
 }
 
 by_difference : (xs ys : List ℕ) → SmallerByte xs ys → byte_order xs ys ≡ Less

@@ -1,7 +1,9 @@
 -- Words of windows compare as the byte strings do. Assumes nothing.
-use Rattle.std.proofs.Common.{◌≡◌, ℕ, zero, suc, ◌+◌, ◌*◌, ◌<◌, ◌≤◌, List, [], ◌∷◌, length, Ordering, Less, Equal, Greater, sym, refl, ap, ◌∙◌, true≢false, arith}
-use Rattle.std.specs.Ordering.{MatchOrdering, is_gt, is_lt, nat_cmp, ordering_then}
+use Rattle.std.proofs.Common.{◌≡◌, ℕ, zero, suc, ◌+◌, ◌*◌, ◌<◌, ◌≤◌, List, [], ◌∷◌, length, Ordering, Less, Equal, Greater, sym, refl, ap, ◌∙◌, arith}
+use Rattle.std.specs.Ordering.{MatchOrdering, nat_cmp, ordering_then}
 use Rattle.std.specs.Cmp.{ranks, nat_cmp_is}
+use Rattle.std.proofs.lemmas.Cmp.{nat_list_cmp_total, tied_itself}
+use Rattle.std.proofs.lemmas.Map.Lookups.{exact_bytes}
 use Rattle.std.specs.Cmp.Lexicographic.{slice_cmp}
 use Rattle.std.specs.Int.Digits.{number_from_digits, number_from_digits_after, AllBelowBase}
 use Rattle.rows.proofs.Orders.{stands}
@@ -68,10 +70,6 @@ under_window (suc n) (x ∷ xs) u = (u.0, under_window n xs u.1)
 
 -- ---- windows that differ
 
-pub lex_itself : (xs : List ℕ) → lexed xs xs ≡ Equal
-lex_itself [] = refl
-lex_itself (x ∷ xs) = ap (λ o. ordering_then o (lexed xs xs)) (rank_eq x x refl) ∙ lex_itself xs
-
 -- against the empty string, only zeros tie
 left_head : (y : ℕ) (r o : Ordering) → MatchOrdering o (0 < y) (0 ≡ y) (y < 0) → ((r ≡ Equal → ⊥) → r ≡ Less) → (ordering_then o r ≡ Equal → ⊥) → ordering_then o r ≡ Less
 left_head y r Less l rest k = refl
@@ -80,7 +78,7 @@ left_head y r Greater l rest k = absurd (omega arith)
 
 differ_left : (n : ℕ) (ys : List ℕ) → (lexed (window n []) (window n ys) ≡ Equal → ⊥) → lexed (window n []) (window n ys) ≡ Less
 differ_left zero ys h = absurd (h refl)
-differ_left (suc n) [] h = absurd (h (lex_itself (window (suc n) [])))
+differ_left (suc n) [] h = absurd (h (tied_itself nat_list_cmp_total (window (suc n) [])))
 differ_left (suc n) (y ∷ ys) h = left_head y (lexed (window n []) (window n ys)) (nat_cmp 0 y) (ranks 0 y) (differ_left n ys) h
 
 right_head : (x : ℕ) (r o : Ordering) → MatchOrdering o (x < 0) (x ≡ 0) (0 < x) → ((r ≡ Equal → ⊥) → r ≡ Greater) → (ordering_then o r ≡ Equal → ⊥) → ordering_then o r ≡ Greater
@@ -90,7 +88,7 @@ right_head x r Greater l rest k = refl
 
 differ_right : (n : ℕ) (xs : List ℕ) → (lexed (window n xs) (window n []) ≡ Equal → ⊥) → lexed (window n xs) (window n []) ≡ Greater
 differ_right zero xs h = absurd (h refl)
-differ_right (suc n) [] h = absurd (h (lex_itself (window (suc n) [])))
+differ_right (suc n) [] h = absurd (h (tied_itself nat_list_cmp_total (window (suc n) [])))
 differ_right (suc n) (x ∷ xs) h = right_head x (lexed (window n xs) (window n [])) (nat_cmp x 0) (ranks x 0) (differ_right n xs) h
 
 both_heads : (o t r : Ordering) → ((r ≡ Equal → ⊥) → t ≡ r) → (ordering_then o r ≡ Equal → ⊥) → ordering_then o t ≡ ordering_then o r
@@ -100,7 +98,7 @@ both_heads Greater t r rest k = refl
 
 pub lex_differ : (n : ℕ) (xs ys : List ℕ) → (lexed (window n xs) (window n ys) ≡ Equal → ⊥) → lexed xs ys ≡ lexed (window n xs) (window n ys)
 lex_differ zero xs ys h = absurd (h refl)
-lex_differ (suc n) [] [] h = absurd (h (lex_itself (window (suc n) [])))
+lex_differ (suc n) [] [] h = absurd (h (tied_itself nat_list_cmp_total (window (suc n) [])))
 lex_differ (suc n) [] (y ∷ ys) h = sym (differ_left (suc n) (y ∷ ys) h)
 lex_differ (suc n) (x ∷ xs) [] h = sym (differ_right (suc n) (x ∷ xs) h)
 lex_differ (suc n) (x ∷ xs) (y ∷ ys) h = both_heads (nat_cmp x y) (lexed xs ys) (lexed (window n xs) (window n ys)) (lex_differ n xs ys) h
@@ -119,21 +117,8 @@ lex_tie (suc n) (x ∷ xs) (y ∷ ys) e h =
 
 -- ---- lists that tie
 
-same_heads : (x y : ℕ) (r o : Ordering) → MatchOrdering o (x < y) (x ≡ y) (y < x) → ordering_then o r ≡ Equal → (x ≡ y) × (r ≡ Equal)
-same_heads x y r Less h e = absurd (true≢false (ap is_lt e))
-same_heads x y r Equal h e = (h, e)
-same_heads x y r Greater h e = absurd (true≢false (ap is_gt e))
-
-pub lex_same : (xs ys : List ℕ) → lexed xs ys ≡ Equal → xs ≡ ys
-lex_same [] [] e = refl
-lex_same [] (y ∷ ys) e = absurd (true≢false (ap is_lt e))
-lex_same (x ∷ xs) [] e = absurd (true≢false (ap is_gt e))
-lex_same (x ∷ xs) (y ∷ ys) e =
-    let h : (x ≡ y) × (lexed xs ys ≡ Equal) = same_heads x y (lexed xs ys) (nat_cmp x y) (ranks x y) e in
-    λ i. h.0 i ∷ lex_same xs ys h.1 i
-
 pub same_numbers : (xs ys : List ℕ) → AllBelowBase 256 xs → AllBelowBase 256 ys → length xs ≡ length ys → number_from_digits 256 xs ≡ number_from_digits 256 ys → xs ≡ ys
-same_numbers xs ys u v l e = lex_same xs ys (sym (numbers xs ys u v l) ∙ rank_eq (number_from_digits 256 xs) (number_from_digits 256 ys) e)
+same_numbers xs ys u v l e = exact_bytes xs ys (sym (numbers xs ys u v l) ∙ rank_eq (number_from_digits 256 xs) (number_from_digits 256 ys) e)
 
 pub windows_stand : Windows
 windows_stand = record {

@@ -2,7 +2,7 @@
 use Rattle.std.specs.Prelude.{List}
 use Rattle.rows.specs.Row.{Row}
 use Rattle.views.specs.declared.column.ViewColumn.{ViewColumn}
-use Rattle.views.specs.Texts.{column_texts}
+use Rattle.views.specs.Texts.{texts_of}
 
 abbrev pub rows_of : ViewColumn → List Row
-rows_of c = column_texts c.bytes.now c.buffers.now c.views c.validity c.len
+rows_of c = texts_of c.parts

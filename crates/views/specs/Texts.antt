@@ -10,6 +10,7 @@ use Rattle.parts.specs.declared.part.Part.{Part}
 use Rattle.parts.specs.declared.validity.Validity.{Validity}
 use Rattle.parts.specs.Parts.{valid_at, too_many, ends_past, validity_past, parts_past}
 use Rattle.rows.specs.Row.{Row, null, text}
+use Rattle.views.specs.declared.texts.TextParts.{TextParts}
 use Rattle.views.specs.View.{value_of, view_fault}
 
 -- the bytes of view i, where the first begins at `views`
@@ -70,3 +71,14 @@ column_texts bytes buffers views validity n = text_rows bytes buffers views vali
 abbrev pub read_text : Option (Bor (List ℕ)) → Row
 read_text None = null
 read_text (Some value) = text value.now
+
+-- ---- the parts of a column as one value
+
+abbrev pub row_fault_in : TextParts → ℕ → Option ColumnFault
+row_fault_in p i = row_fault p.bytes.now p.buffers.now p.views p.validity i
+
+abbrev pub parts_fault : TextParts → Option ColumnFault
+parts_fault p = text_fault p.bytes.now p.buffers.now p.views p.validity p.len
+
+abbrev pub texts_of : TextParts → List Row
+texts_of p = column_texts p.bytes.now p.buffers.now p.views p.validity p.len

@@ -1,7 +1,8 @@
 -- The variable-size binary view of the Arrow columnar format: sixteen bytes, over a data area and a list of buffers in it. Assumes nothing.
 --     bytes 0-3 are the size; up to size 12 the value follows at byte 4, and the rest is zero;
 --     above 12, bytes 4-7 repeat the value's first four bytes, 8-11 are a buffer index, and 12-15 an offset in that buffer.
-use Rattle.std.specs.Prelude.{◌≡◌, ℕ, ◌+◌, ◌<◌, ◌≤◌, Bool, true, cond, not, ◌&&◌, List, [], ◌∷◌, ◌++◌, length, take, drop, Some, None, Option, ◌==◌, nat_le, nat_lt, slice_index, slice_index_or}
+use Rattle.std.specs.Prelude.{◌≡◌, ℕ, ◌+◌, ◌<◌, ◌≤◌, Bool, cond, not, ◌&&◌, List, ◌++◌, length, take, drop, Some, None, Option, ◌==◌, nat_le, nat_lt, slice_index, slice_index_or}
+use Rattle.std.specs.List.{list_all}
 use Rattle.std.specs.Str.{bytes_eq}
 use Rattle.faults.specs.declared.ViewFault.{ViewFault}
 use Rattle.faults.specs.declared.ViewFault.TheVariants.{Padding, Index, End, Prefix}
@@ -48,8 +49,7 @@ value_of bytes buffers w = cond (nat_le (size_of w) 12) (short_value w) (long_va
 -- ---- what is wrong with a view: the first of four conditions that holds
 
 abbrev pub all_zero : List ℕ → Bool
-all_zero [] = true
-all_zero (b ∷ bs) = b == 0 && all_zero bs
+all_zero = list_all (λ b. b == 0)
 
 abbrev pub bad_padding : List ℕ → Bool
 bad_padding w = nat_le (size_of w) 12 && not (all_zero (drop (4 + size_of w) w))

@@ -7,10 +7,10 @@ ghost use Rattle.views.specs.View.{view_bytes};
 ghost use Rattle.views.specs.Window.{byte_order};
 ghost use Rattle.views.specs.Words.{Whole, Words};
 
-use crate::bytes::{order_bytes, same_bytes};
+use crate::compare::{told_cmp, told_eq};
 use crate::constant::TextConstant;
 use crate::resolved::ResolvedView;
-use crate::shortcuts::{prefix_cmp, same_head, same_inlined, size_cmp, tail_cmp};
+use crate::told::Told;
 use crate::view::View;
 use std::cmp::Ordering;
 
@@ -33,14 +33,28 @@ impl<'a> TextConstant<'a> {
         let image = View::read_within(&image_bytes(bytes), 0);
         TextConstant { bytes, image }
     }
+}
 
-    // The words that a view of the constant would have, and what they tell.
-    pub fn words(self) -> View
+impl<'a> Told<'a> for TextConstant<'a> {
+    ghost told = { λ s. s.bytes.now };
+
+    ghost image = { λ s. view_bytes s.image };
+
+    fn words(self) -> View
         ensures view { result ≡ self.entry.image }
+        ensures image { view_bytes result ≡ view_bytes self.entry.image }
         ensures tells { Words (view_bytes result) self.entry.bytes.now }
         ensures whole { Whole (view_bytes result) self.entry.bytes.now }
     {
         self.image
+    }
+
+    fn has_front(self) -> bool {
+        true
+    }
+
+    fn value(self) -> &'a [u8] {
+        self.bytes
     }
 }
 
@@ -48,32 +62,12 @@ impl<'a> TextConstant<'a> {
 pub fn constant_eq<'a>(view: ResolvedView<'a>, constant: TextConstant<'a>) -> bool
     ensures { result ≡ is_eq (byte_order (value view.entry) constant.entry.bytes.now) }
 {
-    let (l, r) = (view.words(), constant.words());
-    if !same_head(l, r) {
-        return false;
-    }
-    if l.is_inlined() {
-        // Sizes are equal, so the constant has at most 12 bytes too.
-        return same_inlined(l, r);
-    }
-    same_bytes(view.value(), constant.bytes)
+    told_eq(view, constant)
 }
 
 // The order of the view's value and the constant.
 pub fn constant_cmp<'a>(view: ResolvedView<'a>, constant: TextConstant<'a>) -> Ordering
     ensures { result ≡ byte_order (value view.entry) constant.entry.bytes.now }
 {
-    let (l, r) = (view.words(), constant.words());
-    match prefix_cmp(l, r) {
-        Ordering::Equal => {}
-        order => return order,
-    }
-    if l.is_inlined() {
-        // A tie of the zero-padded bytes means that one value is a beginning of the other.
-        match tail_cmp(l, r) {
-            Ordering::Equal => return size_cmp(view.len(), constant.bytes.len()),
-            order => return order,
-        }
-    }
-    order_bytes(view.value(), constant.bytes)
+    told_cmp(view, constant)
 }

@@ -27,21 +27,20 @@ fn two_words_cmp(left: &[u8], right: &[u8], at: usize) -> Ordering
 }
 
 // The order of the first n bytes, where these are less than sixteen.
-fn short_front_cmp<'a>(left: &'a [u8], right: &'a [u8], n: usize) -> Ordering
+fn short_front_cmp(left: &[u8], right: &[u8], n: usize) -> Ordering
     requires left_has { n ≤ length left.now }
     requires right_has { n ≤ length right.now }
     requires short { n < 16 }
     ensures { result ≡ byte_order (take n left.now) (take n right.now) }
 {
     if n < 8 {
-        let (left, right) = (&left[0..n], &right[0..n]);
-        return left.cmp(&right);
+        return left[0..n].cmp(&right[0..n]);
     }
     word_cmp(left, right, 0).then(word_cmp(left, right, n - 8))
 }
 
 // The order of the first n bytes. The last sixteen of them may overlap the ones before.
-fn front_cmp<'a>(left: &'a [u8], right: &'a [u8], n: usize) -> Ordering
+fn front_cmp(left: &[u8], right: &[u8], n: usize) -> Ordering
     requires left_has { n ≤ length left.now }
     requires right_has { n ≤ length right.now }
     ensures { result ≡ byte_order (take n left.now) (take n right.now) }
@@ -49,10 +48,9 @@ fn front_cmp<'a>(left: &'a [u8], right: &'a [u8], n: usize) -> Ordering
     if n < 16 {
         return short_front_cmp(left, right, n);
     }
-    let mut at = 0;
-    while at < n - 16 {
-        match two_words_cmp(left, right, at) {
-            Ordering::Equal => at += 16,
+    for k in 0..n.div_ceil(16) - 1 {
+        match two_words_cmp(left, right, 16 * k) {
+            Ordering::Equal => {}
             order => return order,
         }
     }
@@ -60,14 +58,14 @@ fn front_cmp<'a>(left: &'a [u8], right: &'a [u8], n: usize) -> Ordering
 }
 
 // Whether two values are the same.
-pub(crate) fn same_bytes<'a>(left: &'a [u8], right: &'a [u8]) -> bool
+pub(crate) fn same_bytes(left: &[u8], right: &[u8]) -> bool
     ensures { result ≡ is_eq (byte_order left.now right.now) }
 {
     left.len() == right.len() && front_cmp(left, right, left.len()).is_eq()
 }
 
 // The order of two values: by the first difference, and a proper beginning is less.
-pub(crate) fn order_bytes<'a>(left: &'a [u8], right: &'a [u8]) -> Ordering
+pub(crate) fn order_bytes(left: &[u8], right: &[u8]) -> Ordering
     ensures { result ≡ byte_order left.now right.now }
 {
     let sizes = left.len().cmp(&right.len());

@@ -12,12 +12,7 @@ use parts::part::Part;
 fn are_zero(bytes: &[u8]) -> bool
     ensures { result ≡ all_zero bytes.now }
 {
-    for b in bytes {
-        if *b != 0 {
-            return false;
-        }
-    }
-    true
+    bytes.iter().all(|b| *b == 0)
 }
 
 impl View {
@@ -38,9 +33,7 @@ impl View {
             }
             return Ok(());
         }
-        let Some(buffer) = self.buffer(bytes, buffers) else {
-            return Err(ViewFault::Index);
-        };
+        let buffer = self.buffer(bytes, buffers).ok_or(ViewFault::Index)?;
         if self.ends_past(buffer) {
             return Err(ViewFault::End);
         }
@@ -60,14 +53,11 @@ impl View {
     }
 
     // The bytes of the buffer of a long value.
-    pub(crate) fn buffer<'a>(self, bytes: &'a [u8], buffers: &[Part]) -> Option<&'a [u8]>
+    fn buffer<'a>(self, bytes: &'a [u8], buffers: &[Part]) -> Option<&'a [u8]>
         ensures { MatchOption result (nat_le (length buffers.now) (index_of (view_bytes self)) ≡ true) (λ b. (nat_le (length buffers.now) (index_of (view_bytes self)) ≡ false) × (b.now ≡ buffer_of bytes.now buffers.now (view_bytes self))) }
     {
-        let index = self.index() as usize;
-        if index >= buffers.len() {
-            return None;
-        }
-        Some(buffers[index].of(bytes))
+        let buffer = buffers.get(self.index() as usize)?;
+        Some(buffer.of(bytes))
     }
 
     // Whether a long value ends past its buffer.

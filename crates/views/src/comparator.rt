@@ -39,7 +39,6 @@ impl<'a> RowComparator for Views<'a> {
         self.right.rows()
     }
 
-    // The views of null rows are not read.
     fn compare(&self, i: usize, j: usize) -> Ordering {
         match (self.left.is_valid(i), self.right.is_valid(j)) {
             (true, true) => view_cmp(self.left.view(i), self.right.view(j)),
@@ -52,8 +51,7 @@ impl<'a> RowComparator for Views<'a> {
     fn same(&self, i: usize) -> Option<bool> {
         Some(match (self.left.is_valid(i), self.right.is_valid(i)) {
             (true, true) => view_eq(self.left.view(i), self.right.view(i)),
-            (true, false) | (false, true) => false,
-            (false, false) => true,
+            (left, right) => left == right,
         })
     }
 }
@@ -107,8 +105,7 @@ impl<'a> RowComparator for ViewsConstant<'a> {
     fn same(&self, i: usize) -> Option<bool> {
         Some(match (self.left.is_valid(i), self.has_right(i)) {
             (true, true) => constant_eq(self.left.view(i), self.constant),
-            (true, false) | (false, true) => false,
-            (false, false) => true,
+            (left, right) => left == right,
         })
     }
 }

@@ -3,33 +3,26 @@ ghost use Rattle.std.specs.Prelude.{◌≡◌, ◌<◌, true, false, not, length
 ghost use Rattle.std.specs.declared.cmp.Ordering.TheVariants.{Less, Greater};
 ghost use Rattle.rows.specs.Row.{is_null, null, order, row, text};
 ghost use Rattle.views.specs.Column.{rows_of};
-ghost use Rattle.views.specs.Resolved.{value};
+ghost use Rattle.views.specs.Resolved.{image, value};
 ghost use Rattle.views.specs.Texts.{read_text};
 ghost use Rattle.views.specs.View.{size_of, view_bytes};
 ghost use Rattle.views.specs.Words.{Words};
 
 use crate::column::ViewColumn;
 use crate::resolved::ResolvedView;
+use crate::told::Told;
 use crate::view::View;
 
 impl<'a> ResolvedView<'a> {
     // A value that its view does not hold, as the part of the data where it stands.
-    fn long_value(self) -> &'a [u8]
-        requires { 12 < size_of (view_bytes self.view) }
+    fn long_value(self, view: View) -> &'a [u8]
+        requires long { 12 < size_of (view_bytes view) }
+        requires own { view_bytes view ≡ image self }
         ensures { result.now ≡ value self.entry }
     {
-        let buffer = self.buffers[self.view.index() as usize].of(self.bytes);
-        let start = self.view.offset() as usize;
-        &buffer[start..start + self.view.size() as usize]
-    }
-
-    // The view's two words, and what they tell of the value.
-    pub fn words(self) -> View
-        ensures view { result ≡ self.entry.view }
-        ensures tells { Words (view_bytes result) (value self.entry) }
-        ensures size { size_of (view_bytes result) ≡ length (value self.entry) }
-    {
-        self.view
+        let buffer = self.buffers[view.index() as usize].of(self.bytes);
+        let start = view.offset() as usize;
+        &buffer[start..start + view.size() as usize]
     }
 
     // The length of the value.
@@ -38,16 +31,35 @@ impl<'a> ResolvedView<'a> {
     {
         self.words().size() as usize
     }
+}
+
+impl<'a> Told<'a> for ResolvedView<'a> {
+    ghost told = { value };
+
+    ghost image = { image };
+
+    fn words(self) -> View
+        ensures image { view_bytes result ≡ image self.entry }
+        ensures tells { Words (view_bytes result) (value self.entry) }
+        ensures size { size_of (view_bytes result) ≡ length (value self.entry) }
+    {
+        View::read_within(self.bytes, self.at)
+    }
+
+    fn has_front(self) -> bool {
+        self.words().is_inlined()
+    }
 
     // The value as the part of the data where it stands, be that the view itself.
-    pub fn value(self) -> &'a [u8]
+    fn value(self) -> &'a [u8]
         ensures { result.now ≡ value self.entry }
     {
-        if self.view.is_inlined() {
+        let view = self.words();
+        if view.is_inlined() {
             let start = self.at + 4;
-            return &self.bytes[start..start + self.view.size() as usize];
+            return &self.bytes[start..start + view.size() as usize];
         }
-        self.long_value()
+        self.long_value(view)
     }
 }
 
@@ -59,7 +71,7 @@ impl<'a> ViewColumn<'a> {
         ensures above { result ≡ true → order (row (rows_of self.now) i) null ≡ Greater }
         ensures below { result ≡ true → order null (row (rows_of self.now) i) ≡ Less }
     {
-        i < self.rows() && self.validity.is_valid(self.bytes, i)
+        i < self.rows() && self.parts.validity.is_valid(self.parts.bytes, i)
     }
 
     // The view of a valid row.
@@ -67,16 +79,10 @@ impl<'a> ViewColumn<'a> {
         requires { is_null (row (rows_of self.now) i) ≡ false }
         ensures { row (rows_of self.now) i ≡ text (value result) }
     {
-        let at = self.views + 16 * i;
-        let view = View::read_within(self.bytes, at);
-        let bytes = self.bytes;
-        let buffers = self.buffers;
-        ResolvedView {
-            view,
-            at,
-            bytes,
-            buffers,
-        }
+        let bytes = self.parts.bytes;
+        let buffers = self.parts.buffers;
+        let at = self.parts.views + 16 * i;
+        ResolvedView { at, bytes, buffers }
     }
 
     // The value of row i where it stands in the data, or none where the row is null or past the end.

@@ -21,7 +21,7 @@ impl View {
     pub fn read(bytes: &[u8], at: usize) -> Option<View>
         ensures { MatchOption result (length bytes.now < at + 16) (λ v. view_bytes v ≡ take 16 (drop at bytes.now)) }
     {
-        if bytes.len() < 16 || at > bytes.len() - 16 {
+        if at.checked_add(16)? > bytes.len() {
             return None;
         }
         Some(View::read_within(bytes, at))
@@ -93,11 +93,9 @@ impl View {
     pub fn inlined_bytes(self) -> [u8; 12]
         ensures { result ≡ drop 4 (view_bytes self) }
     {
-        let low = self.low.to_le_bytes();
-        let high = self.high.to_le_bytes();
-        [
-            low[4], low[5], low[6], low[7], high[0], high[1], high[2], high[3], high[4], high[5],
-            high[6], high[7],
-        ]
+        let mut bytes = [0u8; 12];
+        bytes[0..4].copy_from_slice(&self.low.to_le_bytes()[4..8]);
+        bytes[4..12].copy_from_slice(&self.high.to_le_bytes());
+        bytes
     }
 }

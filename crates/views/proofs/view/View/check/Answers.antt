@@ -10,5 +10,5 @@ told : {A : Type 0} (bytes : List ℕ) (buffers : List Part) (w : List ℕ) (r :
 told bytes buffers w (Ok x) e = formed bytes buffers w (sym e)
 told bytes buffers w (Err f) e = λ well. true≢false (ap is_some (e ∙ unfaulted bytes buffers w well))
 
-pub returns : goal.returns
-returns c = record { answers = c.find_fault.ensures; formed = told c.args.bytes.now c.args.buffers.now (view_bytes c.args.self) c.find_fault.result c.find_fault.ensures }
+pub returns-clause-formed : goal.returns-clause-formed
+returns-clause-formed c = told c.args.bytes.now c.args.buffers.now (view_bytes c.args.self) c.find_fault.result c.find_fault.ensures
