@@ -11,8 +11,8 @@ use Rattle.rows.specs.Collected.{collected, collection}
 use Rattle.rows.specs.Row.{Row, row}
 use Rattle.rows.specs.declared.operator.CompareOperator.{CompareOperator}
 use Rattle.rows.specs.declared.operator.CompareOperator.TheVariants.{Eq, NotEq, Gt, Gte, Lt, Lte}
-use Rattle.numbers.specs.declared.validity.Validity.{Validity}
-use Rattle.numbers.specs.declared.validity.Validity.TheVariants.{NonNullable, Bitmap}
+use Rattle.parts.specs.declared.validity.Validity.{Validity}
+use Rattle.parts.specs.declared.validity.Validity.TheVariants.{NonNullable, Bitmap}
 
 -- the operators by their codes, 0 to 5; any other code is Lte
 abbrev pub operator_of : ℕ → CompareOperator

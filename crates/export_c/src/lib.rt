@@ -1,9 +1,17 @@
-// The static library's C interface: what the crate export compares, under the same clauses.
+// The static library's C interface: what the crate export compares, in plain numbers and slices.
 #![tactic(auto)]
 
 ghost use Rattle.std.specs.Prelude.{◌≡◌, length};
 ghost use Rattle.elements.specs.Kinds.{coded};
 ghost use Rattle.export.specs.Exported.{exported_by, filled_by, operator_of, validity_of};
+
+use codes::{answer, operator, side};
+use elements::ptype::PType;
+use export::comparison::Comparison;
+use export::{numeric, texts};
+use parts::part::Part;
+
+mod codes;
 
 // Bit i of the output is the operator of the order of left row i and right row i, or of right row 0 where `fixed` is set.
 // Each column has `len` elements of the kind with the code `ptype`, from its start on; where `nullable` is set it has a bitmap.
@@ -25,19 +33,19 @@ pub extern "C" fn compare_numbers(
     ensures answers { result ≡ exported_by (coded ptype) bytes.now left (validity_of nullable left_bitmap) right (validity_of nullable right_bitmap) fixed len (length out.old) }
     ensures writes { out.new ≡ filled_by (coded ptype) bytes.now left (validity_of nullable left_bitmap) right (validity_of nullable right_bitmap) (operator_of op) fixed len result out.old }
 {
-    export::compare_numbers(
+    let kind = match PType::try_from(ptype) {
+        Ok(kind) => kind,
+        Err(fault) => return fault.number(),
+    };
+    let asked = Comparison {
         bytes,
-        ptype,
-        left,
-        left_bitmap,
-        right,
-        right_bitmap,
-        nullable,
+        left: side(left, nullable, left_bitmap),
+        right: side(right, nullable, right_bitmap),
         len,
-        op,
+        op: operator(op),
         fixed,
-        out,
-    )
+    };
+    answer(numeric::compare_numbers(kind, &asked, out))
 }
 
 // Bit i of the output is the operator of the order of left row i and right row i, or of right row 0 where `fixed` is set.
@@ -59,19 +67,17 @@ pub extern "C" fn compare_views(
     again: usize,
     out: &mut [u8],
 ) -> u8 {
-    export::texts::compare_views(
+    let buffers = [Part {
+        start: buffer,
+        len: buffer_len,
+    }];
+    let asked = Comparison {
         bytes,
-        buffer,
-        buffer_len,
-        left,
-        left_bitmap,
-        right,
-        right_bitmap,
-        nullable,
+        left: side(left, nullable, left_bitmap),
+        right: side(right, nullable, right_bitmap),
         len,
-        op,
+        op: operator(op),
         fixed,
-        again,
-        out,
-    )
+    };
+    answer(texts::compare_views(&buffers, &asked, again, out))
 }
