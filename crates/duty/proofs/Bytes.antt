@@ -1,32 +1,23 @@
 -- What the bytes of counts read as. Assumes nothing.
-use Rattle.std.proofs.Common.{◌≡◌, ℕ, zero, suc, ◌+◌, ◌*◌, ◌/◌, ◌%◌, ◌^◌, ◌<◌, min, eqb, List, [], ◌∷◌, ◌++◌, length, get_or, drop, pos, is_some, Some, None, Option, unwrap_or, sym, refl, ap, ◌∙◌, ap₂, mod-eq_of_lt, pow-suc, arith}
-use native.Mathlib.Nat.{div-div-eq-div-mul}
-use Rattle.std.proofs.lemmas.List.FromFn.{fill_by_all}
-use Rattle.std.proofs.lemmas.List.{drop-drop, length-drop, length-map, get_or-drop, get_or-map, get_or-append-add}
+use Rattle.std.proofs.Common.{◌≡◌, ℕ, zero, suc, ◌+◌, ◌-◌, ◌*◌, ◌/◌, ◌%◌, ◌^◌, ◌<◌, min, eqb, List, [], ◌∷◌, ◌++◌, length, get_or, pos, is_some, Some, None, Option, unwrap_or, sym, refl, ap, ◌∙◌, ap₂, mod-eq_of_lt, length-append, arith}
+use Rattle.std.proofs.lemmas.List.FromFn.{fill_by_all, get_or-map-range_with_len, length-map-range_with_len}
+use Rattle.std.proofs.lemmas.List.{drop-drop, length-map, get_or-map, get_or-append-add, get_or_append_left}
 use Rattle.std.specs.List.{flat_map}
-use Rattle.rows.specs.Bits.{digit, bits, byte_at, bytes_of}
+use Rattle.rows.specs.Bits.{digit, bits, byte_at, bytes_for, bytes_of}
 use Rattle.rows.specs.Row.{null}
 use Rattle.rows.proofs.BitLaws.{bits_same}
 use Rattle.rows.proofs.Packed.{packed_bit}
 use Rattle.elements.specs.Keys.{key_of, key_by}
-use Rattle.elements.specs.Reading.{little_endian, pattern_at, bit_at}
+use Rattle.elements.specs.Reading.{pattern_at, bit_at}
+use Rattle.elements.proofs.LittleEndian.{le_value}
 use Rattle.elements.specs.declared.ptype.PType.TheVariants.{U64}
-use Rattle.numbers.specs.Columns.{cell, key_at, valid_at, number_rows}
-use Rattle.numbers.specs.declared.validity.Validity.TheVariants.{Bitmap}
+use Rattle.parts.specs.Parts.{valid_at}
+use Rattle.numbers.specs.Columns.{cell, key_at, number_rows}
+use Rattle.parts.specs.declared.validity.Validity.TheVariants.{Bitmap}
 use Rattle.duty.specs.Counts.{count_row, count_rows}
-use Rattle.duty.specs.Layout.{le_bytes, count_bytes, count_value, present}
+use Rattle.duty.specs.Layout.{count_bytes, count_value, present}
 
 -- ---- the values
-
--- what `to_le_bytes` makes
-pub eight_bytes : (n : ℕ)
-    → (n % 256) ∷ (n / 256 % 256) ∷ (n / 65536 % 256) ∷ (n / 16777216 % 256) ∷ (n / 4294967296 % 256) ∷ (n / 1099511627776 % 256) ∷ (n / 281474976710656 % 256) ∷ (n / 72057594037927936 % 256) ∷ [] ≡ le_bytes 8 n
-eight_bytes n = simp div-div-eq-div-mul
-
--- the bytes of a number read as the number
-le_value : (width n : ℕ) → n < 256 ^ width → little_endian (le_bytes width n) ≡ n
-le_value zero n h = omega arith
-le_value (suc width) n h = omega (arith, le_value width (n / 256) (omega (arith, pow-suc 256 width)))
 
 -- value i stands at byte 8 * i, whatever follows the values
 value_at : (counts : List (Option ℕ)) (more : List ℕ) (i : ℕ) → i < length counts → count_value counts i < 2 ^ 64
@@ -43,13 +34,35 @@ values_length (count ∷ counts) = omega (arith, values_length counts)
 
 -- ---- the bitmap
 
--- a byte of the counts from 8 * k on is byte k
-pub rest_byte : (counts : List (Option ℕ)) (k : ℕ)
-    → bits (present (drop (8 * k) counts)) 0 (min (length (drop (8 * k) counts)) 8) ≡ byte_at (present counts) (length counts) k
-rest_byte counts k =
-    ap (λ n. bits (present (drop (8 * k) counts)) 0 (min n 8)) (length-drop (8 * k) counts)
-    ∙ bits_same (present (drop (8 * k) counts)) (present counts) 0 (8 * k) _
-    (λ i l. ap is_some (get_or-drop (8 * k) counts (0 + i) None ∙ ap (λ j. get_or counts j None) (omega arith)))
+-- the bitmap of a chunk and what follows it: the byte of the chunk, and the bitmap of the rest
+module _ (xs ys : List (Option ℕ)) (some : 0 < length (xs ++ ys)) (chunk : length xs ≡ min 8 (length (xs ++ ys))) where
+  abbrev n : ℕ
+  n = length (xs ++ ys)
+
+  sum : n ≡ length xs + length ys
+  sum = length-append xs ys
+
+  first : bits (present xs) 0 (min (length xs) 8) ≡ byte_at (present (xs ++ ys)) n 0
+  first =
+      ap (bits (present xs) 0) (omega (arith, chunk))
+      ∙ bits_same (present xs) (present (xs ++ ys)) 0 (8 * 0) (min (n - 8 * 0) 8) (λ k l. ap is_some (sym (get_or_append_left xs ys None (0 + k) (omega (arith, chunk, l))) ∙ ap (λ j. get_or (xs ++ ys) j None) (omega arith)))
+
+  later : (j : ℕ) → 8 * suc j < n → byte_at (present ys) (length ys) j ≡ byte_at (present (xs ++ ys)) n (suc j)
+  later j h =
+      let full : length xs ≡ 8 = omega (arith, chunk, h) in
+      ap (bits (present ys) (8 * j)) (omega (arith, sum, full))
+      ∙ bits_same (present ys) (present (xs ++ ys)) (8 * j) (8 * suc j) (min (n - 8 * suc j) 8)
+      (λ k l. ap is_some (sym (get_or-append-add xs ys (8 * j + k) None) ∙ ap (λ i. get_or (xs ++ ys) i None) (omega (arith, full))))
+
+  places : (i : ℕ) → i < bytes_for n → get_or (bits (present xs) 0 (min (length xs) 8) ∷ bytes_of (present ys) (length ys)) i 0 ≡ byte_at (present (xs ++ ys)) n i
+  places zero h = first
+  places (suc j) h =
+      get_or-map-range_with_len (byte_at (present ys) (length ys)) 0 (bytes_for (length ys)) j j 0 (omega (arith, sum, chunk, h)) (omega arith) ∙ later j (omega (arith, h))
+
+  pub chunk_byte : bits (present xs) 0 (min (length xs) 8) ∷ bytes_of (present ys) (length ys) ≡ bytes_of (present (xs ++ ys)) n
+  chunk_byte =
+      fill_by_all (byte_at (present (xs ++ ys)) n) (bits (present xs) 0 (min (length xs) 8) ∷ bytes_of (present ys) (length ys)) (bytes_for n) 0
+      (omega (arith, sum, chunk, some, length-map-range_with_len (byte_at (present ys) (length ys)) 0 (bytes_for (length ys)))) places
 
 -- ---- the rows
 

@@ -1,5 +1,5 @@
 -- What the views of names read as. Assumes nothing.
-use Rattle.std.proofs.Common.{◌≡◌, ℕ, ◌+◌, ◌-◌, ◌*◌, ◌^◌, ◌<◌, ◌≤◌, List, [], ◌∷◌, ◌++◌, map, length, get_or, take, drop, replicate, vec_items, Vec, sym, refl, ap, ◌∙◌, subst, ap₂, ⊎_elim, arith}
+use Rattle.std.proofs.Common.{◌≡◌, ℕ, ◌+◌, ◌-◌, ◌*◌, ◌^◌, ◌<◌, ◌≤◌, List, [], ◌∷◌, ◌++◌, map, length, get_or, take, drop, replicate, vec_items, Vec, sym, refl, ap, ◌∙◌, ap₂, ⊎_elim, arith}
 use Rattle.std.proofs.lemmas.List.{append_assoc, append-nil, drop_at, drop-drop, length-append, length-replicate, length-take-le, take_all, take_at}
 use Rattle.std.proofs.lemmas.Bool.{cases_lt, cond-true, cond-false, le-leb, lt-leb}
 use Rattle.std.specs.List.{range_with_len, flat_map}
@@ -26,7 +26,7 @@ module _ (name : List ℕ) (offset : ℕ) where
   pub short_view : length name ≤ 12 → view_of name offset ≡ le_bytes 4 (length name) ++ short_tail
   short_view h = ap (λ bs. le_bytes 4 (length name) ++ bs) (cond-true (short name) short_tail long_tail (le-leb (length name) 12 h))
 
-  pub long_view : 12 < length name → view_of name offset ≡ le_bytes 4 (length name) ++ long_tail
+  long_view : 12 < length name → view_of name offset ≡ le_bytes 4 (length name) ++ long_tail
   long_view h = ap (λ bs. le_bytes 4 (length name) ++ bs) (cond-false (short name) short_tail long_tail (lt-leb (length name) 12 h))
 
   view_length : length (view_of name offset) ≡ 16
@@ -101,27 +101,6 @@ module _ {Z : Type 0} where
     pub views_on : views ++ views_of left (length buffer) ≡ views_of names 0
     pub buffer_on : buffer ++ long_bytes left ≡ long_bytes names
     pub fit_on : Fit left (length buffer) → Fit names 0
-
-  pub written_none : (names : List (Vec ℕ Z)) (views buffer : List ℕ) → views ≡ [] → buffer ≡ [] → Written names names views buffer
-  written_none names views buffer v b = record {
-    views_on = ap₂ (λ bs cs. bs ++ views_of names (length cs)) v b;
-    buffer_on = ap (λ bs. bs ++ long_bytes names) b;
-    fit_on = λ f. subst (λ bs. Fit names (length bs)) b f;
-  }
-
-  pub written_more : (names left rest : List (Vec ℕ Z)) (name : Vec ℕ Z) (views buffer views' buffer' : List ℕ) → Written names left views buffer → left ≡ name ∷ rest
-      → views' ≡ views ++ view_of (vec_items name) (length buffer) → buffer' ≡ buffer ++ long_part (vec_items name)
-      → length (vec_items name) < 2 ^ 32 → length buffer < 2 ^ 32 → Written names rest views' buffer'
-  written_more names left rest name views buffer views' buffer' w is view part size offset =
-      let long : List ℕ = long_part (vec_items name) in
-      let at : length buffer' ≡ length buffer + length long = ap length part ∙ length-append buffer long in
-      record {
-        views_on =
-            ap₂ (λ bs n. bs ++ views_of rest n) view at ∙ append_assoc views (view_of (vec_items name) (length buffer)) (views_of rest (length buffer + length long))
-            ∙ ap (λ ns. views ++ views_of ns (length buffer)) (sym is) ∙ w.views_on;
-        buffer_on = ap (λ bs. bs ++ long_bytes rest) part ∙ append_assoc buffer long (long_bytes rest) ∙ ap (λ ns. buffer ++ long_bytes ns) (sym is) ∙ w.buffer_on;
-        fit_on = λ f. w.fit_on (subst (λ ns. Fit ns (length buffer)) (sym is) (size, offset, subst (Fit rest) at f));
-      }
 
   -- the rows from row k on, where as many views and long names stand before
   rows_from : (bytes : List ℕ) (buffers : List Part) (buffer : List ℕ) → part_bytes bytes (get_or buffers 0 nowhere) ≡ buffer

@@ -2,7 +2,7 @@
 use Rattle.std.specs.Prelude.{ℕ, ◌*◌, List, map, pos, Some, None, Option}
 use Rattle.rows.specs.Row.{Row, null, number}
 use Rattle.elements.specs.declared.ptype.PType.TheVariants.{U64}
-use Rattle.numbers.specs.declared.validity.Validity.TheVariants.{Bitmap}
+use Rattle.parts.specs.declared.validity.Validity.TheVariants.{Bitmap}
 use Rattle.numbers.specs.Columns.{number_rows}
 
 -- a missing count is null, and not zero

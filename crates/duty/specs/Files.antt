@@ -1,13 +1,9 @@
 -- The lines of a board file: NAME|COUNT|CHANNELS. Assumes nothing.
-use Rattle.std.specs.Prelude.{ℕ, ◌+◌, ◌-◌, ◌*◌, ◌^◌, cond, ◌&&◌, List, [], ◌∷◌, Some, None, Option, ◌==◌, nat_le, nat_lt}
+use Rattle.std.specs.Prelude.{ℕ, position, ◌+◌, ◌-◌, ◌*◌, ◌^◌, cond, ◌&&◌, List, [], ◌∷◌, Some, None, Option, ◌==◌, nat_le, nat_lt}
 
--- the place of the first byte b, counted from n on
-abbrev pub place_from : ℕ → ℕ → List ℕ → Option ℕ
-place_from n b [] = None
-place_from n b (x ∷ xs) = cond (x == b) (Some n) (place_from (n + 1) b xs)
-
+-- the place of the first byte b
 abbrev pub place : ℕ → List ℕ → Option ℕ
-place b xs = place_from 0 b xs
+place b xs = position (λ x. x == b) xs
 
 -- one decimal digit more behind the number n, where the result has at most 64 bits
 abbrev pub digit_after : ℕ → ℕ → Option ℕ

@@ -1,11 +1,7 @@
 -- Counts as bytes. Assumes nothing.
-use Rattle.std.specs.Prelude.{ℕ, zero, suc, ◌/◌, ◌%◌, Bool, List, [], ◌∷◌, is_some, None, Option, slice_index_or}
+use Rattle.std.specs.Prelude.{ℕ, Bool, List, is_some, None, Option, slice_index_or}
 use Rattle.std.specs.Option.{unwrap_or}
-
--- a number in so many bytes, least significant first
-abbrev pub le_bytes : ℕ → ℕ → List ℕ
-le_bytes zero n = []
-le_bytes (suc width) n = (n % 256) ∷ le_bytes width (n / 256)
+use Rattle.elements.specs.Reading.{le_bytes}
 
 -- a missing count takes its place as 0
 abbrev pub count_bytes : Option ℕ → List ℕ

@@ -5,22 +5,8 @@ ghost use Rattle.rows.specs.Bits.{bytes_of};
 ghost use Rattle.duty.specs.Counts.{area_rows, count_rows};
 ghost use Rattle.duty.specs.Layout.{count_bytes, count_value, present};
 
-use rows::packing::{Results, pack};
+use rows::packing::pack;
 use std::alloc::{AllocError, Global};
-
-// Whether each of the counts is there.
-#[derive(Drop)]
-struct Present<'a> {
-    counts: &'a [Option<u64>],
-}
-
-impl<'a> Results for Present<'a> {
-    ghost told = { λ s i. present s.counts.now i };
-
-    fn result(&self, place: usize) -> bool {
-        place < self.counts.len() && self.counts[place].is_some()
-    }
-}
 
 // Appends the values of the counts, each of which fits.
 fn push_values(bytes: &mut Vec<u8>, counts: &[Option<u64>]) -> Result<(), AllocError>
@@ -38,9 +24,8 @@ fn push_values(bytes: &mut Vec<u8>, counts: &[Option<u64>]) -> Result<(), AllocE
 fn push_bitmap(bytes: &mut Vec<u8>, counts: &[Option<u64>]) -> Result<(), AllocError>
     ensures { OnOk result (bytes.new.items ≡ bytes.old.items ++ bytes_of (present counts.now) (length counts.now)) }
 {
-    for k in 0..counts.len().div_ceil(8) {
-        let rest = &counts[8 * k..];
-        bytes.push(pack(&Present { counts: rest }, rest.len()))?;
+    for eight in counts.chunks(8) {
+        bytes.push(pack(|i| eight[i].is_some(), eight.len()))?;
     }
     Ok(())
 }

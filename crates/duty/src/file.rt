@@ -7,22 +7,15 @@ pub fn find_byte(bytes: &[u8], b: u8) -> Option<usize>
     ensures value { result ≡ place b bytes.now }
     ensures within { IfSome result (λ i. i < length bytes.now) }
 {
-    for (i, x) in bytes.iter().enumerate() {
-        if *x == b {
-            return Some(i);
-        }
-    }
-    None
+    bytes.iter().position(|x| *x == b)
 }
 
 // What stands before the first byte b, and what stands after it.
 pub fn split_once<'a>(bytes: &'a [u8], b: u8) -> Option<(&'a [u8], &'a [u8])>
     ensures { MatchOption result (place b bytes.now ≡ None) (λ parts. (i : ℕ) × (place b bytes.now ≡ Some i) × (parts.0.now ≡ take i bytes.now) × (parts.1.now ≡ drop (i + 1) bytes.now)) }
 {
-    match find_byte(bytes, b) {
-        Some(i) => Some((&bytes[0..i], &bytes[i + 1..])),
-        None => None,
-    }
+    let i = find_byte(bytes, b)?;
+    Some((&bytes[..i], &bytes[i + 1..]))
 }
 
 // One decimal digit more behind a number: none for another byte, and past 64 bits.

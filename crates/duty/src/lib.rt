@@ -5,4 +5,5 @@ pub mod area;
 pub mod checks;
 pub mod file;
 pub mod names;
+mod output;
 pub mod roster;

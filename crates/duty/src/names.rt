@@ -7,12 +7,10 @@ use crate::checks::DutyFault;
 use faults::ColumnFault;
 use parts::part::Part;
 use std::alloc::{AllocError, Global};
+use views::view::MAX_INLINED_SIZE;
 
 // A view holds a name of at most so many bytes.
-const INLINE: usize = 12;
-
-// A view tells sizes and offsets up to this number.
-const MOST: usize = u32::MAX as usize;
+const INLINE: usize = MAX_INLINED_SIZE as usize;
 
 // What fills a view up behind a name.
 const PADDING: [u8; INLINE] = [0; INLINE];
@@ -21,13 +19,10 @@ const PADDING: [u8; INLINE] = [0; INLINE];
 pub fn plain_name(heap: Global, name: &[u8]) -> Result<Vec<u8>, AllocError>
     ensures { IfOk result (λ v. v.items ≡ plain name.now) }
 {
-    let mut shown = Vec::new(heap);
-    for b in name {
-        if *b >= b' ' && *b <= b'~' {
-            shown.push(*b)?;
-        }
-    }
-    Ok(shown)
+    name.iter()
+        .copied()
+        .filter(|b| *b >= b' ' && *b <= b'~')
+        .collect(heap)
 }
 
 // Appends a number in four bytes, least significant first.
@@ -37,12 +32,19 @@ fn push_number(bytes: &mut Vec<u8>, n: u32) -> Result<(), AllocError>
     bytes.extend_from_slice(&n.to_le_bytes())
 }
 
-// Appends the view of a name. A long name stands at the offset of the buffer.
-fn push_view(views: &mut Vec<u8>, name: &[u8], offset: u32) -> Result<(), AllocError>
-    requires { length name.now < 2 ^ 32 }
+// A size or an offset, as a view tells it in four bytes.
+fn told(n: usize) -> Result<u32, DutyFault>
+    ensures { IfOk result (λ m. m ≡ n) }
+{
+    u32::try_from(n).map_err(|_| DutyFault::Column(ColumnFault::Range))
+}
+
+// Appends the view of a name of that size. A long name stands at the offset of the buffer.
+fn push_view(views: &mut Vec<u8>, name: &[u8], size: u32, offset: u32) -> Result<(), AllocError>
+    requires { size ≡ length name.now }
     ensures { OnOk result (views.new.items ≡ views.old.items ++ view_of name.now offset) }
 {
-    push_number(views, name.len() as u32)?;
+    push_number(views, size)?;
     if name.len() <= INLINE {
         views.extend_from_slice(name)?;
         views.extend_from_slice(&PADDING[name.len()..])?;
@@ -61,10 +63,9 @@ fn push_name(views: &mut Vec<u8>, buffer: &mut Vec<u8>, name: &[u8]) -> Result<(
     ensures size { OnOk result (length name.now < 2 ^ 32) }
     ensures offset { OnOk result (length buffer.old.items < 2 ^ 32) }
 {
-    if name.len() > MOST || buffer.len() > MOST {
-        return Err(DutyFault::Column(ColumnFault::Range));
-    }
-    push_view(views, name, buffer.len() as u32)?;
+    let size = told(name.len())?;
+    let offset = told(buffer.len())?;
+    push_view(views, name, size, offset)?;
     if name.len() > INLINE {
         buffer.extend_from_slice(name)?;
     }

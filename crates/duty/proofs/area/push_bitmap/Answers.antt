@@ -1,23 +1,21 @@
-use Rattle.std.proofs.Common.{◌≡◌, ◌*◌, min, [], ◌∷◌, ◌++◌, map, length, vec_items, sym, ap, ◌∙◌, ap₂, arith}
-use Rattle.std.proofs.lemmas.List.FromFn.{map-range_with_len_more}
-use Rattle.std.proofs.lemmas.List.{append_assoc, take_rest}
-use Rattle.std.specs.List.{range_with_len}
-use Rattle.rows.specs.Bits.{bits, byte_at}
+use Rattle.std.proofs.Common.{◌≡◌, [], ◌∷◌, ◌++◌, length, min, vec_items, sym, ap, ◌∙◌, arith, rules}
+use Rattle.std.proofs.lemmas.List.{append_assoc}
+use Rattle.rows.specs.Bits.{bits, bytes_of}
 use Rattle.duty.specs.Layout.{present}
-use Rattle.duty.proofs.Bytes.{rest_byte}
+use Rattle.duty.proofs.Bytes.{chunk_byte}
 use Rattle.duty.proofs.area.push_bitmap.Goals as goal
 
-pub loop-k-preserved : goal.loop-k-preserved
-loop-k-preserved c =
-    let counts = c.args.counts.now in
-    let before = vec_items c.args.bytes.now in
-    let k = c.loop-k.k in
-    let byte = byte_at (present counts) (length counts) in
-    let here : c.pack.result ≡ byte k = c.pack.ensures ∙ ap (λ xs. bits (present xs) 0 (min (length xs) 8)) (take_rest counts (8 * k)) ∙ rest_byte counts k in
-    c.in_ok-push.ensures.items ∙ ap₂ (λ bs b. bs ++ b ∷ []) c.loop-k.invariant here
-    ∙ append_assoc before (map byte (range_with_len 0 k)) (byte k ∷ []) ∙ ap (λ bs. before ++ bs) (sym (map-range_with_len_more byte 0 k k (omega arith)))
-
-pub returns : goal.returns
-returns c =
-    let counts = c.args.counts.now in
-    c.loop-k.invariant ∙ ap (λ n. vec_items c.args.bytes.now ++ map (byte_at (present counts) (length counts)) (range_with_len 0 n)) (omega arith)
+pub loop-eight-preserved : goal.loop-eight-preserved
+loop-eight-preserved c =
+    let before = vec_items c.loop-eight.bytes in
+    let xs = c.in-Some.eight.now in
+    let ys = c.next.new.self.rest.now in
+    let size = c.loop-eight.invariant.0 in
+    let step = c.in-Some.ensures.steps.1 in
+    let byte : c.pack.result ≡ bits (present xs) 0 (min (length xs) 8) = c.pack.ensures (present xs) (λ k b h p. search rules) in
+    let chunk = chunk_byte xs ys (omega (arith, ap length step.0, step.2)) (omega (arith, ap length step.0, step.1, size)) in (
+      c.in-Some.ensures.steps.0 ∙ size,
+      ap (λ bs. bs ++ bytes_of (present ys) (length ys)) c.in_ok-push.ensures.items ∙ append_assoc before (c.pack.result ∷ []) (bytes_of (present ys) (length ys))
+          ∙ ap (λ bs. before ++ bs) (ap (λ b. b ∷ bytes_of (present ys) (length ys)) byte ∙ chunk ∙ ap (λ rest. bytes_of (present rest) (length rest)) (sym step.0))
+          ∙ c.loop-eight.invariant.1,
+    )

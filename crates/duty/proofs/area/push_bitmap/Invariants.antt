@@ -1,8 +1,11 @@
-use Rattle.std.proofs.Common.{◌≡◌, ◌++◌, map, length, vec_items}
-use Rattle.std.specs.List.{range_with_len}
-use Rattle.rows.specs.Bits.{byte_at}
+use Rattle.std.proofs.Common.{◌≡◌, ◌++◌, length, vec_items}
+use Rattle.rows.specs.Bits.{bytes_of}
 use Rattle.duty.specs.Layout.{present}
 use Rattle.duty.proofs.area.push_bitmap.Given as goal
 
-abbrev pub invariant-loop-k : goal.invariant-loop-k
-invariant-loop-k l = vec_items l.bytes ≡ vec_items l.initial.bytes ++ map (byte_at (present l.counts) (length l.counts)) (range_with_len 0 l.k)
+-- the bytes so far and the bitmap of what is left
+abbrev pub invariant-loop-eight : goal.invariant-loop-eight
+invariant-loop-eight l =
+    let rest = l.eight-iterator.rest.now in
+    (l.eight-iterator.size ≡ 8)
+    × (vec_items l.bytes ++ bytes_of (present rest) (length rest) ≡ vec_items l.initial.bytes ++ bytes_of (present l.counts) (length l.counts))
