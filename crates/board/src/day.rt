@@ -1,42 +1,45 @@
 // Two days of packet counts, and what the duty list asks of them.
+ghost use Rattle.std.specs.Prelude.{◌≡◌, map, IfOk};
+ghost use Rattle.rows.specs.declared.operator.CompareOperator.TheVariants.{Eq, Gt, Lt, Lte};
+ghost use Rattle.board.specs.Days.{against, pairwise};
+ghost use Rattle.board.specs.declared.file.Station.{Station};
+
 use crate::file::Station;
 use duty::checks::{BothWays, DutyFault, compare_counts, compare_threshold};
 use rows::operator::CompareOperator;
 use std::alloc::{AllocError, Global};
-
-// The count of a station by its name: missing where there is no such station.
-fn count_of(stations: &[Station], name: &[u8]) -> Option<u64> {
-    for station in stations {
-        if station.name.as_slice() == name {
-            return station.count;
-        }
-    }
-    None
-}
+use std::collections::BTreeMap;
 
 // The counts of today's stations.
-pub(crate) fn counts_today(
+pub(crate) fn counts_today(heap: Global, today: &[Station]) -> Result<Vec<Option<u64>>, AllocError>
+    ensures { IfOk result (λ v. v.items ≡ map (λ (station : Station). station.count) today.now) }
+{
+    today.iter().map(|station| station.count).collect(heap)
+}
+
+// The counts of stations by their names: the first station of a name counts.
+fn counts_by_name(
     heap: Global,
-    today: &[Station],
-) -> Result<Vec<Option<u64>>, AllocError> {
-    let mut counts = Vec::new(heap);
-    for station in today {
-        counts.push(station.count)?;
+    stations: Vec<Station>,
+) -> Result<BTreeMap<Vec<u8>, Option<u64>>, AllocError> {
+    let mut counts = BTreeMap::new(heap);
+    for Station { name, count } in stations {
+        counts.entry(name)?.or_insert(count);
     }
     Ok(counts)
 }
 
-// The counts that the same stations had the day before.
+// The counts that the same stations had the day before: missing where there was no such station.
 pub(crate) fn counts_before(
     heap: Global,
     today: &[Station],
-    yesterday: &[Station],
+    yesterday: Vec<Station>,
 ) -> Result<Vec<Option<u64>>, AllocError> {
-    let mut counts = Vec::new(heap);
-    for station in today {
-        counts.push(count_of(yesterday, station.name.as_slice()))?;
-    }
-    Ok(counts)
+    let counts = counts_by_name(heap, yesterday)?;
+    today
+        .iter()
+        .map(|station| counts.get(station.name.as_slice()).copied().flatten())
+        .collect(heap)
 }
 
 // The results of the comparisons, bit i for station i.
@@ -55,26 +58,40 @@ pub(crate) struct Findings {
     pub past: BothWays,
 }
 
+// Each count, the operator, zero.
+fn against_zero(
+    heap: Global,
+    counts: &[Option<u64>],
+    op: CompareOperator,
+) -> Result<Vec<u8>, DutyFault>
+    ensures { IfOk result (λ v. v.items ≡ against counts.now 0 op) }
+{
+    let BothWays { after, .. } = compare_threshold(heap, counts, 0, op)?;
+    Ok(after)
+}
+
 pub(crate) fn compare_days(
     heap: Global,
     today: &[Option<u64>],
     yesterday: &[Option<u64>],
     threshold: u64,
-) -> Result<Findings, DutyFault> {
-    let fell = compare_counts(heap, today, yesterday, CompareOperator::Lt)?;
-    let same = compare_counts(heap, today, yesterday, CompareOperator::Eq)?;
-    let BothWays { after: silent, .. } = compare_threshold(heap, today, 0, CompareOperator::Lte)?;
-    let BothWays { after: heard, .. } = compare_threshold(heap, yesterday, 0, CompareOperator::Gt)?;
-    let BothWays { after: missing, .. } = compare_threshold(heap, today, 0, CompareOperator::Lt)?;
-    let BothWays { after: zero, .. } = compare_threshold(heap, today, 0, CompareOperator::Eq)?;
-    let past = compare_threshold(heap, today, threshold, CompareOperator::Gt)?;
+) -> Result<Findings, DutyFault>
+    ensures fell { IfOk result (λ f. f.fell.items ≡ pairwise today.now yesterday.now Lt) }
+    ensures same { IfOk result (λ f. f.same.items ≡ pairwise today.now yesterday.now Eq) }
+    ensures silent { IfOk result (λ f. f.silent.items ≡ against today.now 0 Lte) }
+    ensures heard { IfOk result (λ f. f.heard.items ≡ against yesterday.now 0 Gt) }
+    ensures missing { IfOk result (λ f. f.missing.items ≡ against today.now 0 Lt) }
+    ensures zero { IfOk result (λ f. f.zero.items ≡ against today.now 0 Eq) }
+    ensures past { IfOk result (λ f. f.past.after.items ≡ against today.now threshold Gt) }
+    ensures both { IfOk result (λ f. f.past.before.items ≡ f.past.after.items) }
+{
     Ok(Findings {
-        fell,
-        same,
-        silent,
-        heard,
-        missing,
-        zero,
-        past,
+        fell: compare_counts(heap, today, yesterday, CompareOperator::Lt)?,
+        same: compare_counts(heap, today, yesterday, CompareOperator::Eq)?,
+        silent: against_zero(heap, today, CompareOperator::Lte)?,
+        heard: against_zero(heap, yesterday, CompareOperator::Gt)?,
+        missing: against_zero(heap, today, CompareOperator::Lt)?,
+        zero: against_zero(heap, today, CompareOperator::Eq)?,
+        past: compare_threshold(heap, today, threshold, CompareOperator::Gt)?,
     })
 }

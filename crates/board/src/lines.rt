@@ -2,206 +2,183 @@
 use crate::day::Findings;
 use crate::file::Station;
 use crate::names::{NameFindings, Pair};
-use crate::show::{bit, shown_count, shown_name};
-use std::alloc::Global;
+use crate::show::{Count, bit};
+use std::alloc::{AllocError, Global};
+use std::fmt;
 
-// The board: names left, counts right, today's against yesterday's.
-pub(crate) fn print_board(
-    rt: &HostRuntime,
-    stations: &[Station],
-    before: &[Option<u64>],
-    findings: &Findings,
-) -> anyhow::Result<()> {
-    let heap = rt.alloc();
-    for (i, station) in stations.iter().enumerate() {
-        let name = shown_name(heap, station.name.as_slice())?;
-        let count = shown_count(heap, station.count)?;
-        let old = shown_count(heap, before.get(i).copied().unwrap_or(None))?;
-        let sign = if bit(findings.fell.as_slice(), i) {
-            "<"
-        } else if bit(findings.same.as_slice(), i) {
-            "="
-        } else {
-            ">"
-        };
-        println!(rt; "  {name:<24} {count:>20} {sign} {old}")?;
-    }
-    Ok(())
+// How a line of the duty list is marked.
+#[derive(Clone, Copy, PartialEq, Eq)]
+pub(crate) enum Mark {
+    Tick,
+    Cross,
 }
 
-// Adds a name to a list of names.
-fn add_name(heap: Global, names: &mut String, name: &[u8]) -> anyhow::Result<()> {
-    if !names.is_empty() {
-        names.push_str(", ")?;
+impl Mark {
+    // A line is ticked where nothing was caught.
+    fn ticked_if(clear: bool) -> Mark {
+        if clear { Mark::Tick } else { Mark::Cross }
     }
-    names.push_str(shown_name(heap, name)?.as_str())?;
-    Ok(())
 }
 
-// The names of the stations whose bit is set in both results.
-fn names_in(
-    heap: Global,
-    stations: &[Station],
-    bits: &[u8],
-    others: &[u8],
-) -> anyhow::Result<String> {
-    let mut names = String::new(heap);
-    for (i, station) in stations.iter().enumerate() {
-        if bit(bits, i) && bit(others, i) {
-            add_name(heap, &mut names, station.name.as_slice())?;
-        }
+impl fmt::Display for Mark {
+    fn fmt<W: fmt::Write>(&self, f: &mut fmt::Formatter<W>) -> fmt::Result {
+        f.pad(match self {
+            Mark::Tick => "tick",
+            Mark::Cross => "cross",
+        })
     }
-    Ok(names)
 }
 
-// The names of the stations at some places.
-fn names_at(heap: Global, stations: &[Station], places: &[usize]) -> anyhow::Result<String> {
-    let mut names = String::new(heap);
-    for place in places {
-        if let Some(station) = stations.get(*place) {
-            add_name(heap, &mut names, station.name.as_slice())?;
-        }
-    }
-    Ok(names)
+// The names of some stations.
+fn list_names(heap: Global, stations: &[&Station]) -> Result<String, AllocError> {
+    let names: Vec<String> = stations
+        .iter()
+        .map(|station| station.to_string(heap))
+        .try_collect(heap)?;
+    names.as_slice().join(heap, ", ")
 }
 
-// The head of a line of the duty list: ticked where nothing was caught.
-fn print_head(rt: &HostRuntime, title: &str, rule: &str, ticked: bool) -> anyhow::Result<()> {
-    let mark = if ticked { "tick " } else { "cross" };
-    println!(rt; "[{mark}] {title}")?;
+// Prints the head of a line of the duty list.
+fn print_head(rt: &HostRuntime, title: &str, rule: &str, mark: Mark) -> anyhow::Result<()> {
+    println!(rt; "[{mark:<5}] {title}")?;
     println!(rt; "        rule: {rule}")?;
     Ok(())
 }
 
-// A line of the duty list, with what it caught.
-fn print_line(rt: &HostRuntime, title: &str, rule: &str, caught: &str) -> anyhow::Result<bool> {
-    let ticked = caught.is_empty();
-    print_head(rt, title, rule, ticked)?;
-    if !ticked {
-        println!(rt; "        caught: {caught}")?;
+// Prints the stations that a line tells of, where there are any.
+fn print_told(rt: &HostRuntime, what: &str, stations: &[&Station]) -> anyhow::Result<()> {
+    if !stations.is_empty() {
+        let names = list_names(rt.alloc(), stations)?;
+        println!(rt; "        {what}: {names}")?;
     }
-    Ok(ticked)
-}
-
-// Two rows that look like one station.
-fn print_pair(rt: &HostRuntime, stations: &[Station], pair: Pair) -> anyhow::Result<()> {
-    let heap = rt.alloc();
-    let (Some(first), Some(second)) = (stations.get(pair.first), stations.get(pair.second)) else {
-        return Ok(());
-    };
-    let first = shown_name(heap, first.name.as_slice())?;
-    let second = shown_name(heap, second.name.as_slice())?;
-    let how = if pair.same {
-        "under one name"
-    } else {
-        "apart only in bytes that do not print"
-    };
-    println!(rt; "        entered twice: {first} and {second}, {how}")?;
     Ok(())
 }
 
-pub(crate) fn print_names(
-    rt: &HostRuntime,
-    stations: &[Station],
-    findings: &NameFindings,
-) -> anyhow::Result<bool> {
-    let absent = names_at(rt.alloc(), stations, findings.absent.as_slice())?;
-    let absent = absent.as_str();
-    let ticked = absent.is_empty() && findings.pairs.is_empty();
+// Prints two stations that look like one.
+fn print_pair(rt: &HostRuntime, pair: &Pair<'_>) -> anyhow::Result<()> {
+    let Pair {
+        first,
+        second,
+        likeness,
+    } = *pair;
+    println!(rt; "        entered twice: {first} and {second}, {likeness}")?;
+    Ok(())
+}
+
+// Prints the line of the duty list on the names.
+pub(crate) fn print_names(rt: &HostRuntime, findings: &NameFindings<'_>) -> anyhow::Result<()> {
+    let clear = findings.absent.is_empty() && findings.pairs.is_empty();
     print_head(
         rt,
         "Left side against the install sheet: a station entered twice",
         "a proper beginning is less: a name and the same name with one byte more are never equal",
-        ticked,
+        Mark::ticked_if(clear),
     )?;
-    if !absent.is_empty() {
-        println!(rt; "        not on the sheet: {absent}")?;
-    }
+    print_told(rt, "not on the sheet", findings.absent.as_slice())?;
     for pair in findings.pairs.as_slice() {
-        print_pair(rt, stations, *pair)?;
+        print_pair(rt, pair)?;
     }
-    Ok(ticked)
-}
-
-pub(crate) fn print_quiet(
-    rt: &HostRuntime,
-    stations: &[Station],
-    findings: &Findings,
-) -> anyhow::Result<bool> {
-    let caught = names_in(
-        rt.alloc(),
-        stations,
-        findings.silent.as_slice(),
-        findings.heard.as_slice(),
-    )?;
-    print_line(
-        rt,
-        "Right side against the day before: a channel gone quiet",
-        "today <= 0 and yesterday > 0; a missing count is null, the lowest value, so it is <= 0 too",
-        caught.as_str(),
-    )
-}
-
-pub(crate) fn print_missing(
-    rt: &HostRuntime,
-    stations: &[Station],
-    findings: &Findings,
-) -> anyhow::Result<bool> {
-    let heap = rt.alloc();
-    let caught = names_in(
-        heap,
-        stations,
-        findings.missing.as_slice(),
-        findings.missing.as_slice(),
-    )?;
-    let ticked = print_line(
-        rt,
-        "Rows without a count: a missing count taken for zero",
-        "count < 0 holds of null alone, and count = 0 never holds of null",
-        caught.as_str(),
-    )?;
-    let zero = names_in(
-        heap,
-        stations,
-        findings.zero.as_slice(),
-        findings.zero.as_slice(),
-    )?;
-    let zero = zero.as_str();
-    if !zero.is_empty() {
-        println!(rt; "        zero and not missing: {zero}")?;
-    }
-    Ok(ticked)
-}
-
-fn print_other(rt: &HostRuntime, names: &str) -> anyhow::Result<()> {
-    println!(rt; "        other rows with the threshold before the sign: {names}")?;
     Ok(())
 }
 
-pub(crate) fn print_past(
-    rt: &HostRuntime,
-    stations: &[Station],
-    findings: &Findings,
-    threshold: u64,
-) -> anyhow::Result<bool> {
-    let heap = rt.alloc();
-    let after = findings.past.after.as_slice();
-    let before = findings.past.before.as_slice();
-    let caught = names_in(heap, stations, after, after)?;
-    let again = names_in(heap, stations, before, before)?;
-    let rule = format!(in heap;
-        "count > {threshold} and {threshold} < count are one: sides exchanged, the operator is swapped"
-    )?;
-    let ticked = print_line(
-        rt,
-        "Rows past a threshold, before or after the sign: a threshold read backwards",
-        rule.as_str(),
-        caught.as_str(),
-    )?;
-    if after == before {
-        println!(rt; "        the same rows with the threshold before the sign")?;
-    } else {
-        print_other(rt, again.as_str())?;
+// The board, with what was found on it.
+#[derive(Clone, Copy)]
+pub(crate) struct Board<'a> {
+    pub rt: &'a HostRuntime,
+    pub stations: &'a [Station],
+    // The counts of the day before.
+    pub before: &'a [Option<u64>],
+    pub findings: &'a Findings,
+}
+
+impl<'a> Board<'a> {
+    // Prints the counts of today against those of the day before: names left, counts right.
+    pub(crate) fn print_counts(&self) -> anyhow::Result<()> {
+        let heap = self.rt.alloc();
+        for (i, (station, before)) in self.stations.iter().zip(self.before).enumerate() {
+            let name = station.to_string(heap)?;
+            let count = Count(station.count);
+            let old = Count(*before);
+            let sign = if bit(self.findings.fell.as_slice(), i) {
+                "<"
+            } else if bit(self.findings.same.as_slice(), i) {
+                "="
+            } else {
+                ">"
+            };
+            println!(self.rt; "  {name:<24} {count:>20} {sign} {old}")?;
+        }
+        Ok(())
     }
-    Ok(ticked)
+
+    // The stations whose bit is set in both results.
+    fn stations_in(&self, bits: &[u8], others: &[u8]) -> Result<Vec<&'a Station>, AllocError> {
+        self.stations
+            .iter()
+            .enumerate()
+            .filter(|(i, _)| bit(bits, *i) && bit(others, *i))
+            .map(|(_, station)| station)
+            .collect(self.rt.alloc())
+    }
+
+    // Prints a line of the duty list, which catches the stations whose bit is set in both results.
+    fn print_line(
+        &self,
+        title: &str,
+        rule: &str,
+        bits: &[u8],
+        others: &[u8],
+    ) -> anyhow::Result<Mark> {
+        let caught = self.stations_in(bits, others)?;
+        let mark = Mark::ticked_if(caught.is_empty());
+        print_head(self.rt, title, rule, mark)?;
+        print_told(self.rt, "caught", caught.as_slice())?;
+        Ok(mark)
+    }
+
+    pub(crate) fn print_quiet(&self) -> anyhow::Result<Mark> {
+        self.print_line(
+            "Right side against the day before: a channel gone quiet",
+            "today <= 0 and yesterday > 0; a missing count is null, the lowest value, so it is <= 0 too",
+            self.findings.silent.as_slice(),
+            self.findings.heard.as_slice(),
+        )
+    }
+
+    pub(crate) fn print_missing(&self) -> anyhow::Result<Mark> {
+        let missing = self.findings.missing.as_slice();
+        let zero = self.findings.zero.as_slice();
+        let mark = self.print_line(
+            "Rows without a count: a missing count taken for zero",
+            "count < 0 holds of null alone, and count = 0 never holds of null",
+            missing,
+            missing,
+        )?;
+        let zero = self.stations_in(zero, zero)?;
+        print_told(self.rt, "zero and not missing", zero.as_slice())?;
+        Ok(mark)
+    }
+
+    pub(crate) fn print_past(&self, threshold: u64) -> anyhow::Result<Mark> {
+        let rt = self.rt;
+        let heap = rt.alloc();
+        let after = self.findings.past.after.as_slice();
+        let before = self.findings.past.before.as_slice();
+        let rule = format!(in heap;
+            "count > {threshold} and {threshold} < count are one: sides exchanged, the operator is swapped"
+        )?;
+        let mark = self.print_line(
+            "Rows past a threshold, before or after the sign: a threshold read backwards",
+            rule.as_str(),
+            after,
+            after,
+        )?;
+        if after == before {
+            println!(rt; "        the same rows with the threshold before the sign")?;
+        } else {
+            let again = list_names(heap, self.stations_in(before, before)?.as_slice())?;
+            println!(rt; "        other rows with the threshold before the sign: {again}")?;
+        }
+        Ok(mark)
+    }
 }

@@ -1,7 +1,8 @@
 // What the board is run on, and its files.
 use crate::file::{FileFault, Station, read_stations};
-use anyhow::anyhow;
+use anyhow::{anyhow, bail};
 use duty::file::read_digits;
+use std::fmt::Display;
 use std::{env, fs};
 
 #[derive(Drop)]
@@ -31,53 +32,35 @@ fn example(rt: &HostRuntime) -> anyhow::Result<Request> {
 
 // TODAY YESTERDAY THRESHOLD, with SHEET before the threshold where there is one, or no word at all for the example.
 pub(crate) fn read_request(rt: &HostRuntime) -> anyhow::Result<Request> {
-    let mut words = env::args(rt)?;
-    let _program = words.next();
-    let Some(today) = words.next() else {
-        return example(rt);
-    };
-    let (Some(yesterday), Some(third)) = (words.next(), words.next()) else {
-        return Err(anyhow!("run it as: board TODAY YESTERDAY THRESHOLD"));
-    };
-    let (sheet, threshold) = match (words.next(), words.next()) {
-        (None, _) => (None, third),
-        (Some(threshold), None) => (Some(third), threshold),
-        (Some(_), Some(_)) => return Err(anyhow!("run it as: board TODAY YESTERDAY THRESHOLD")),
+    let words: Vec<String> = env::args(rt)?.skip(1).collect(rt.alloc())?;
+    let (today, yesterday, sheet, threshold) = match words.as_slice() {
+        [] => return example(rt),
+        [today, yesterday, threshold] => (today, yesterday, None, threshold),
+        [today, yesterday, sheet, threshold] => (today, yesterday, Some(sheet), threshold),
+        _ => bail!("run it as: board TODAY YESTERDAY THRESHOLD"),
     };
     let Some(threshold) = read_digits(threshold.as_bytes()) else {
-        return Err(anyhow!("the threshold is no decimal number of at most 64 bits"));
+        bail!("the threshold is no decimal number of at most 64 bits");
     };
     Ok(Request {
-        today,
-        yesterday,
-        sheet,
+        today: today.clone()?,
+        yesterday: yesterday.clone()?,
+        sheet: sheet.cloned()?,
         threshold,
     })
 }
 
-// Prints where the fault is, and gives up.
-fn refuse(rt: &HostRuntime, path: &str, fault: FileFault) -> anyhow::Error {
-    match fault {
-        FileFault::Memory => anyhow!("no memory is left"),
-        FileFault::Line { number, fault } => {
-            let what = fault.text();
-            let _ = eprintln!(rt; "{path}:{number}: {what}");
-            anyhow!("the board is not read")
-        }
-    }
+// Prints why a file is not taken, and gives up.
+fn refuse(rt: &HostRuntime, why: impl Display + Drop) -> anyhow::Error {
+    let _ = eprintln!(rt; "{why}");
+    anyhow!("the board is not read")
 }
 
 // The stations of a file.
 pub(crate) fn load(rt: &HostRuntime, path: &str) -> anyhow::Result<Vec<Station>> {
-    let text = match fs::read(rt, path) {
-        Ok(text) => text,
-        Err(e) => {
-            let _ = eprintln!(rt; "{path}: {e}");
-            return Err(anyhow!("the board is not read"));
-        }
-    };
-    match read_stations(rt.alloc(), text.as_slice()) {
-        Ok(stations) => Ok(stations),
-        Err(fault) => Err(refuse(rt, path, fault)),
-    }
+    let text = fs::read(rt, path).map_err(|e| refuse(rt, format_args!("{path}: {e}")))?;
+    read_stations(rt.alloc(), text.as_slice()).map_err(|fault| match fault {
+        FileFault::Memory(_) => anyhow::Error::from(fault),
+        FileFault::Line { .. } => refuse(rt, format_args!("{path}:{fault}")),
+    })
 }

@@ -1,34 +1,40 @@
 // What the board prints.
-use std::alloc::{AllocError, Global};
+ghost use Rattle.std.specs.Prelude.{◌≡◌, ◌==◌};
+ghost use Rattle.rows.specs.Bits.{bit_of};
 
-const HEX: [&str; 16] = [
-    "0", "1", "2", "3", "4", "5", "6", "7", "8", "9", "a", "b", "c", "d", "e", "f",
-];
+use crate::file::Station;
+use std::fmt;
 
-// A name with every byte but printable ASCII escaped, so that two names that differ look different.
-pub(crate) fn shown_name(heap: Global, name: &[u8]) -> Result<String, AllocError> {
-    let mut text = String::new(heap);
-    for b in name {
-        if *b >= b' ' && *b <= b'~' && *b != b'\\' {
-            text.push(*b as char)?;
-        } else {
-            text.push_str("\\x")?;
-            text.push_str(HEX[(*b / 16) as usize])?;
-            text.push_str(HEX[(*b % 16) as usize])?;
+// A station is shown by its name, every byte of it but printable ASCII escaped, so that two names that differ look different.
+impl fmt::Display for Station {
+    fn fmt<W: fmt::Write>(&self, f: &mut fmt::Formatter<W>) -> fmt::Result {
+        for b in self.name.as_slice() {
+            match *b {
+                shown @ b' '..=b'~' if shown != b'\\' => f.write_char(shown as char)?,
+                hidden => write!(f, "\\x{hidden:02x}")?,
+            }
         }
+        Ok(())
     }
-    Ok(text)
 }
 
 // A count, or a dash where it is missing.
-pub(crate) fn shown_count(heap: Global, count: Option<u64>) -> Result<String, AllocError> {
-    match count {
-        Some(n) => format!(in heap; "{n}"),
-        None => String::from_str(heap, "-"),
+#[derive(Clone, Copy)]
+pub(crate) struct Count(pub Option<u64>);
+
+impl fmt::Display for Count {
+    fn fmt<W: fmt::Write>(&self, f: &mut fmt::Formatter<W>) -> fmt::Result {
+        match self.0 {
+            Some(n) => n.fmt(f),
+            None => f.pad("-"),
+        }
     }
 }
 
 // Bit i of some results; past their end 0.
-pub(crate) fn bit(bits: &[u8], i: usize) -> bool {
-    i / 8 < bits.len() && (bits[i / 8] >> (i % 8)) % 2 == 1
+pub(crate) fn bit(bits: &[u8], i: usize) -> bool
+    ensures { result ≡ (bit_of bits.now i == 1) }
+{
+    bits.get(i / 8)
+        .is_some_and(|byte| (*byte >> (i % 8)) % 2 == 1)
 }
