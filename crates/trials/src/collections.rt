@@ -3,7 +3,7 @@ use elements::kind::*;
 use faults::{CollectFault, ColumnFault};
 use numbers::column::NumberColumn;
 use numbers::numbers::Numbers;
-use numbers::validity::Validity;
+use parts::validity::Validity;
 use rows::collector::collect_ordering_bits;
 use rows::comparator::RowComparator;
 use rows::fixed::FixedRow;
@@ -84,20 +84,17 @@ fn column<K: ElementKind>(
     validity: Validity,
     len: usize,
 ) -> Result<NumberColumn<'static, K>, Fail> {
-    match NumberColumn::new(&DATA, start, validity, len) {
-        Ok(column) => Ok(column),
-        Err(_) => Err(Fail::new("the column is refused")),
-    }
+    NumberColumn::new(&DATA, start, validity, len).map_err(|_| Fail::new("the column is refused"))
 }
 
 // Each bit is what the comparator says of that row, the spare bits are zero, and the last bytes stay.
 fn same_by_row<C: RowComparator>(rt: &impl Abort, comparator: &C, len: usize) -> Result<(), Fail> {
     for op in OPERATORS {
         let mut out = [0xaau8; 5];
-        match collect_ordering_bits(comparator, op, len, &mut out) {
-            Ok(written) => assert_eq!(rt; written, len.div_ceil(8)),
-            Err(_) => return Err(Fail::new("the collection is refused")),
-        }
+        let written = collect_ordering_bits(comparator, op, len, &mut out).map_err(|_| Fail::new(
+            "the collection is refused",
+        ))?;
+        assert_eq!(rt; written, len.div_ceil(8));
         for i in 0..40usize {
             let bit = (out[i / 8] >> (i % 8)) % 2 == 1;
             if i < len {
@@ -189,15 +186,12 @@ fn collections_refused(rt: HostRuntime) -> Result<(), Fail> {
         (0, 0, 0),
     ] {
         let mut out = [0x55u8; 2];
-        let answer = match collect_ordering_bits(
+        let answer = collect_ordering_bits(
             &numbers,
             CompareOperator::Lt,
             len,
             &mut out[0..room.min(2)],
-        ) {
-            Ok(_) => 0,
-            Err(fault) => fault.number(),
-        };
+        ).map_or_else(|fault| fault.number(), |_| 0);
         assert_eq!(rt; answer, number);
         if answer > 0 {
             assert!(rt; out[0] == 0x55 && out[1] == 0x55);
@@ -223,12 +217,11 @@ fn lte_goes_on(rt: HostRuntime) -> Result<(), Fail> {
     let mut a = [0u8; 3];
     let mut b = [0u8; 3];
     let mut c = [0u8; 3];
-    match collect_chain(&first, &second, &across, 20, &mut a, &mut b, &mut c) {
-        Ok(_) => {}
-        Err(_) => return Err(Fail::new("the chain is refused")),
-    }
-    for k in 0..3usize {
-        assert_eq!(rt; a[k] & b[k] & !c[k], 0);
+    collect_chain(&first, &second, &across, 20, &mut a, &mut b, &mut c).map_err(|_| Fail::new(
+        "the chain is refused",
+    ))?;
+    for ((a, b), c) in a.iter().zip(&b).zip(&c) {
+        assert_eq!(rt; *a & *b & !*c, 0);
     }
     Ok(())
 }

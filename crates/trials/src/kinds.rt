@@ -3,61 +3,19 @@ use elements::decimal::DecimalType;
 use elements::kind::*;
 use elements::ptype::PType;
 use faults::ColumnFault;
-use rows::operator::CompareOperator;
+use rows::operator::CompareOperator::{Eq, Gt, Gte, Lt, Lte, NotEq};
 use std::cmp::Ordering;
 use std::test::Fail;
 
 #[test]
 fn operators(rt: HostRuntime) {
     let table = [
-        (
-            CompareOperator::Eq,
-            false,
-            true,
-            false,
-            CompareOperator::NotEq,
-            CompareOperator::Eq,
-        ),
-        (
-            CompareOperator::NotEq,
-            true,
-            false,
-            true,
-            CompareOperator::Eq,
-            CompareOperator::NotEq,
-        ),
-        (
-            CompareOperator::Gt,
-            false,
-            false,
-            true,
-            CompareOperator::Lte,
-            CompareOperator::Lt,
-        ),
-        (
-            CompareOperator::Gte,
-            false,
-            true,
-            true,
-            CompareOperator::Lt,
-            CompareOperator::Lte,
-        ),
-        (
-            CompareOperator::Lt,
-            true,
-            false,
-            false,
-            CompareOperator::Gte,
-            CompareOperator::Gt,
-        ),
-        (
-            CompareOperator::Lte,
-            true,
-            true,
-            false,
-            CompareOperator::Gt,
-            CompareOperator::Gte,
-        ),
+        (Eq, false, true, false, NotEq, Eq),
+        (NotEq, true, false, true, Eq, NotEq),
+        (Gt, false, false, true, Lte, Lt),
+        (Gte, false, true, true, Lt, Lte),
+        (Lt, true, false, false, Gte, Gt),
+        (Lte, true, true, false, Gt, Gte),
     ];
     for (op, less, equal, greater, inverse, swap) in table {
         assert_eq!(rt; op.holds(Ordering::Less), less);
@@ -83,19 +41,15 @@ fn codes(rt: HostRuntime) -> Result<(), Fail> {
         (9, 4),
         (10, 8),
     ] {
-        match PType::from_code(code) {
-            Ok(ptype) => {
-                assert_eq!(rt; u64::from(ptype.code()), code);
-                assert_eq!(rt; ptype.byte_width(), width);
-            }
-            Err(_) => return Err(Fail::new("a code below 11")),
-        }
+        let ptype = PType::try_from(code).map_err(|_| Fail::new("a code below 11"))?;
+        assert_eq!(rt; u64::from(u8::from(ptype)), code);
+        assert_eq!(rt; ptype.byte_width(), width);
     }
     for code in [11u64, 255, 256, u64::MAX] {
-        match PType::from_code(code) {
-            Ok(_) => return Err(Fail::new("a code above 10")),
-            Err(fault) => assert_eq!(rt; fault.number(), 3),
-        }
+        let Err(fault) = PType::try_from(code) else {
+            return Err(Fail::new("a code above 10"));
+        };
+        assert_eq!(rt; fault.number(), 3);
     }
     Ok(())
 }
