@@ -9,8 +9,7 @@ use Rattle.rows.specs.Row.{Row, row, text}
 use Rattle.rows.specs.declared.operator.CompareOperator.{CompareOperator}
 use Rattle.export.specs.declared.comparison.Comparison.{Comparison}
 use Rattle.export.specs.declared.fault.CompareFault.{CompareFault}
-use Rattle.export.specs.Compared.{met_rows, results, rows_at}
-use Rattle.export.specs.Exported.{right_list}
+use Rattle.export.specs.Compared.{met_rows, results, rows_at, right_list}
 
 pub wrote : {E : Type 0} (L R A B : List Row) (op : CompareOperator) (n : ℕ) (r : Result ℕ E) (out out' : List ℕ) → L ≡ A → R ≡ B
     → out' ≡ written r (collected L R op n) out → out' ≡ written r (collected A B op n) out

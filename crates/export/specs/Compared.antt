@@ -1,17 +1,20 @@
 -- What a comparison of two number columns answers, and its results. Assumes nothing.
-use Rattle.std.specs.Prelude.{ℕ, List, Some, None, Ok, Err, Option, Result}
+use Rattle.std.specs.Prelude.{ℕ, Bool, cond, List, replicate, Some, None, Ok, Err, Option, Result}
 use Rattle.faults.specs.declared.CollectFault.{CollectFault}
 use Rattle.faults.specs.declared.ColumnFault.{ColumnFault}
 use Rattle.elements.specs.declared.ptype.PType.{PType}
 use Rattle.elements.specs.Kinds.{width_of}
 use Rattle.numbers.specs.Columns.{number_fault, number_rows}
 use Rattle.rows.specs.Collected.{collected, collection}
-use Rattle.rows.specs.Row.{Row}
+use Rattle.rows.specs.Row.{Row, row}
 use Rattle.export.specs.declared.comparison.Comparison.{Comparison}
 use Rattle.export.specs.declared.comparison.Side.{Side}
 use Rattle.export.specs.declared.fault.CompareFault.{CompareFault}
 use Rattle.export.specs.declared.fault.CompareFault.TheVariants.{Column, Collect}
-use Rattle.export.specs.Exported.{right_list}
+
+-- the right list: the right column, or its row 0 for each left row
+abbrev pub right_list : Bool → ℕ → List Row → List Row
+right_list fixed n rows = cond fixed (replicate n (row rows 0)) rows
 
 abbrev pub fault_at : PType → Comparison → Side → Option ColumnFault
 fault_at p c side = number_fault (width_of p) c.bytes.now side.start side.validity c.len

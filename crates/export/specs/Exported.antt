@@ -1,18 +1,21 @@
 -- What the C interface answers. Assumes nothing.
-use Rattle.std.specs.Prelude.{ℕ, Bool, cond, List, ◌++◌, drop, replicate, Some, None, Ok, Err, Option, Result, ◌==◌}
-use Rattle.faults.specs.Numbers.{collect_number, column_number}
-use Rattle.faults.specs.declared.CollectFault.{CollectFault}
+use Rattle.std.specs.Prelude.{ℕ, Bool, cond, List, [], ◌∷◌, ◌++◌, length, drop, Ok, Err, Result, ◌==◌}
+use Rattle.faults.specs.Numbers.{column_number}
 use Rattle.faults.specs.declared.ColumnFault.{ColumnFault}
 use Rattle.elements.specs.declared.ptype.PType.{PType}
 use Rattle.elements.specs.Kinds.{width_of}
 use Rattle.numbers.specs.Columns.{number_fault, number_rows}
 use Rattle.rows.specs.Bits.{bytes_for}
 use Rattle.rows.specs.Collected.{collected, collection}
-use Rattle.rows.specs.Row.{Row, row}
+use Rattle.rows.specs.Row.{Row}
 use Rattle.rows.specs.declared.operator.CompareOperator.{CompareOperator}
 use Rattle.rows.specs.declared.operator.CompareOperator.TheVariants.{Eq, NotEq, Gt, Gte, Lt, Lte}
+use Rattle.parts.specs.declared.part.Part.{Part}
 use Rattle.parts.specs.declared.validity.Validity.{Validity}
 use Rattle.parts.specs.declared.validity.Validity.TheVariants.{NonNullable, Bitmap}
+use Rattle.views.specs.Texts.{column_texts, text_fault}
+use Rattle.export.specs.Compared.{first_fault, right_list}
+use Rattle.export.specs.Faults.{told}
 
 -- the operators by their codes, 0 to 5; any other code is Lte
 abbrev pub operator_of : ℕ → CompareOperator
@@ -22,25 +25,15 @@ operator_of n =
 abbrev pub validity_of : Bool → ℕ → Validity
 validity_of nullable start = cond nullable (Bitmap start) NonNullable
 
--- the right list: the right column, or its row 0 for each left row
-abbrev pub right_list : Bool → ℕ → List Row → List Row
-right_list fixed n rows = cond fixed (replicate n (row rows 0)) rows
-
--- 0 where it is granted, and else the number of the first refusal: of the left column, of the right one, of the collection
-abbrev pub answer : Option ColumnFault → Option ColumnFault → Result ℕ CollectFault → ℕ
-answer (Some f) right collected = column_number f
-answer None (Some f) collected = column_number f
-answer None None (Err f) = collect_number f
-answer None None (Ok k) = 0
-
 -- the right list of two columns of n rows
 abbrev pub right_rows : PType → List ℕ → ℕ → Validity → Bool → ℕ → List Row
 right_rows p bytes right validity fixed n = right_list fixed n (number_rows p bytes right validity n)
 
+-- 0 where it is granted, and else the number of the first refusal
 abbrev pub exported : PType → List ℕ → ℕ → Validity → ℕ → Validity → Bool → ℕ → ℕ → ℕ
 exported p bytes left left_validity right right_validity fixed n room =
-    answer (number_fault (width_of p) bytes left left_validity n) (number_fault (width_of p) bytes right right_validity n)
-    (collection (number_rows p bytes left left_validity n) (right_rows p bytes right right_validity fixed n) n room)
+    told (first_fault (number_fault (width_of p) bytes left left_validity n) (number_fault (width_of p) bytes right right_validity n)
+    (collection (number_rows p bytes left left_validity n) (right_rows p bytes right right_validity fixed n) n room))
 
 -- the output after an answer: as it was, where that is a refusal
 abbrev pub filled : PType → List ℕ → ℕ → Validity → ℕ → Validity → CompareOperator → Bool → ℕ → ℕ → List ℕ → List ℕ
@@ -56,3 +49,23 @@ exported_by (Ok p) bytes left left_validity right right_validity fixed n room = 
 abbrev pub filled_by : Result PType ColumnFault → List ℕ → ℕ → Validity → ℕ → Validity → CompareOperator → Bool → ℕ → ℕ → List ℕ → List ℕ
 filled_by (Err f) bytes left left_validity right right_validity op fixed n r out = out
 filled_by (Ok p) bytes left left_validity right right_validity op fixed n r out = filled p bytes left left_validity right right_validity op fixed n r out
+
+-- ---- two text columns over some buffers
+
+-- their right list
+abbrev pub right_texts : List Part → List ℕ → ℕ → Validity → ℕ → Validity → Bool → ℕ → List Row
+right_texts buffers bytes left left_validity right right_validity fixed n =
+    right_list fixed (length (column_texts bytes buffers left left_validity n)) (column_texts bytes buffers right right_validity n)
+
+abbrev pub exported_texts : List Part → List ℕ → ℕ → Validity → ℕ → Validity → Bool → ℕ → ℕ → ℕ
+exported_texts buffers bytes left left_validity right right_validity fixed n room =
+    told (first_fault (text_fault bytes buffers left left_validity n) (text_fault bytes buffers right right_validity n)
+    (collection (column_texts bytes buffers left left_validity n) (right_texts buffers bytes left left_validity right right_validity fixed n) n room))
+
+abbrev pub filled_texts : List Part → List ℕ → ℕ → Validity → ℕ → Validity → CompareOperator → Bool → ℕ → ℕ → List ℕ → List ℕ
+filled_texts buffers bytes left left_validity right right_validity op fixed n r out =
+    cond (r == 0) (collected (column_texts bytes buffers left left_validity n) (right_texts buffers bytes left left_validity right right_validity fixed n) op n ++ drop (bytes_for n) out) out
+
+-- the one buffer that C names
+abbrev pub one_buffer : ℕ → ℕ → List Part
+one_buffer start n = record { start = start; len = n } ∷ []

@@ -1,4 +1,4 @@
-pub mod Exported
 pub mod Faults
 pub mod Compared
 pub mod Texts
+pub mod Exported

@@ -8,8 +8,7 @@ use Rattle.views.specs.Texts.{column_texts, text_fault}
 use Rattle.export.specs.declared.comparison.Comparison.{Comparison}
 use Rattle.export.specs.declared.comparison.Side.{Side}
 use Rattle.export.specs.declared.fault.CompareFault.{CompareFault}
-use Rattle.export.specs.Compared.{first_fault}
-use Rattle.export.specs.Exported.{right_list}
+use Rattle.export.specs.Compared.{first_fault, right_list}
 
 -- the fault of a side
 abbrev pub fault_of_texts : List Part → Comparison → Side → Option ColumnFault

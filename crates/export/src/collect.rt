@@ -1,7 +1,7 @@
 // The collection that is asked for, over any comparator.
 ghost use Rattle.std.specs.Prelude.{◌≡◌, length};
 ghost use Rattle.rows.specs.Collected.{collected, collection, written};
-ghost use Rattle.export.specs.Exported.{right_list};
+ghost use Rattle.export.specs.Compared.{right_list};
 
 use crate::comparison::Comparison;
 use faults::CollectFault;

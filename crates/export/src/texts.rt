@@ -2,7 +2,7 @@
 ghost use Rattle.std.specs.Prelude.{◌≡◌, length};
 ghost use Rattle.rows.specs.Collected.{collected, collection, written};
 ghost use Rattle.views.specs.Column.{rows_of};
-ghost use Rattle.export.specs.Exported.{right_list};
+ghost use Rattle.export.specs.Compared.{right_list};
 ghost use Rattle.export.specs.Texts.{compared_texts, text_results};
 
 use crate::collect::collect;

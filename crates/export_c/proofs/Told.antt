@@ -1,5 +1,5 @@
 -- A comparison's answer and output, as C is told them. Assumes nothing.
-use Rattle.std.proofs.Common.{◌≡◌, ℕ, Bool, List, ◌++◌, drop, cond, eqb, Some, None, Ok, Err, Option, Result, sym, refl, ap, ◌∙◌}
+use Rattle.std.proofs.Common.{◌≡◌, ℕ, List, ◌++◌, drop, cond, eqb, Some, None, Ok, Err, Option, Result, refl, ap}
 use Rattle.faults.specs.declared.CollectFault.{CollectFault}
 use Rattle.faults.specs.declared.CollectFault.TheVariants.{Length, Output}
 use Rattle.faults.specs.declared.ColumnFault.{ColumnFault}
@@ -11,17 +11,10 @@ use Rattle.elements.specs.declared.ptype.PType.{PType}
 use Rattle.export.specs.declared.comparison.Comparison.{Comparison}
 use Rattle.export.specs.declared.fault.CompareFault.TheVariants.{Column, Collect}
 use Rattle.export.specs.Compared.{compared, fault_at, first_fault, met_rows, results, rows_at}
-use Rattle.export.specs.Exported.{answer, exported, filled}
+use Rattle.export.specs.Exported.{filled, filled_texts}
 use Rattle.export.specs.Faults.{told}
-
-first_told : (a b : Option ColumnFault) (r : Result ℕ CollectFault) → told (first_fault a b r) ≡ answer a b r
-first_told (Some f) b r = refl
-first_told None (Some f) r = refl
-first_told None None (Err f) = refl
-first_told None None (Ok k) = refl
-
-pub answers : (p : PType) (c : Comparison) (room : ℕ) → told (compared p c room) ≡ exported p c.bytes.now c.left.start c.left.validity c.right.start c.right.validity c.fixed c.len room
-answers p c room = first_told (fault_at p c c.left) (fault_at p c c.right) _
+use Rattle.export.specs.Texts.{compared_texts, fault_of_texts, met_texts, text_results, texts_at}
+use Rattle.parts.specs.declared.part.Part.{Part}
 
 -- a refusal's number is not 0
 module _ (bytes out : List ℕ) where
@@ -46,3 +39,8 @@ pub writes : (p : PType) (c : Comparison) (room : ℕ) (out : List ℕ)
     → written (compared p c room) (results p c) out ≡ filled p c.bytes.now c.left.start c.left.validity c.right.start c.right.validity c.op c.fixed c.len (told (compared p c room)) out
 writes p c room out =
     first_written (fault_at p c c.left) (fault_at p c c.right) _ (results p c) out (bytes_for c.len) (λ k h. grants (rows_at p c c.left) (met_rows p c) c.len room k h)
+
+pub text_writes : (buffers : List Part) (c : Comparison) (room : ℕ) (out : List ℕ)
+    → written (compared_texts buffers c room) (text_results buffers c) out ≡ filled_texts buffers c.bytes.now c.left.start c.left.validity c.right.start c.right.validity c.op c.fixed c.len (told (compared_texts buffers c room)) out
+text_writes buffers c room out =
+    first_written (fault_of_texts buffers c c.left) (fault_of_texts buffers c c.right) _ (text_results buffers c) out (bytes_for c.len) (λ k h. grants (texts_at buffers c c.left) (met_texts buffers c) c.len room k h)

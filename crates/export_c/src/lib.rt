@@ -3,7 +3,7 @@
 
 ghost use Rattle.std.specs.Prelude.{◌≡◌, length};
 ghost use Rattle.elements.specs.Kinds.{coded};
-ghost use Rattle.export.specs.Exported.{exported_by, filled_by, operator_of, validity_of};
+ghost use Rattle.export.specs.Exported.{exported_by, exported_texts, filled_by, filled_texts, one_buffer, operator_of, validity_of};
 
 use codes::{answer, operator, side};
 use elements::ptype::PType;
@@ -66,7 +66,10 @@ pub extern "C" fn compare_views(
     fixed: bool,
     again: usize,
     out: &mut [u8],
-) -> u8 {
+) -> u8
+    ensures answers { result ≡ exported_texts (one_buffer buffer buffer_len) bytes.now left (validity_of nullable left_bitmap) right (validity_of nullable right_bitmap) fixed len (length out.old) }
+    ensures writes { out.new ≡ filled_texts (one_buffer buffer buffer_len) bytes.now left (validity_of nullable left_bitmap) right (validity_of nullable right_bitmap) (operator_of op) fixed len result out.old }
+{
     let buffers = [Part {
         start: buffer,
         len: buffer_len,

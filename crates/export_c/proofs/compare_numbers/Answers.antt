@@ -1,10 +1,10 @@
 use Rattle.std.proofs.Common.{length, ap, ◌∙◌, sym}
 use Rattle.export.specs.declared.comparison.Comparison.{Comparison}
-use Rattle.export.specs.Compared.{compared, results}
+use Rattle.export.specs.Compared.{results}
 use Rattle.rows.specs.Collected.{written}
 use Rattle.export.specs.Exported.{exported, exported_by, filled, filled_by, validity_of, operator_of}
 use Rattle.export.specs.Faults.{told}
-use Rattle.export_c.proofs.Told.{answers, writes}
+use Rattle.export_c.proofs.Told.{writes}
 use Rattle.export_c.proofs.compare_numbers.Goals as goal
 
 pub returns-clause-answers : goal.returns-clause-answers
@@ -18,7 +18,7 @@ returns-clause-answers c =
     let r = c.side-2.ensures in
     let room = length a.out.now in
     let asked : Comparison = record { bytes = a.bytes; left = c.side.result; right = c.side-2.result; len = a.len; op = c.operator.result; fixed = a.fixed } in
-    c.answer.ensures ∙ ap told c.compare_numbers.ensures.answers ∙ answers p asked room
+    c.answer.ensures ∙ ap told c.compare_numbers.ensures.answers
     ∙ (λ i. exported p bs (l.start i) (l.validity i) (r.start i) (r.validity i) a.fixed a.len room)
     ∙ ap (λ k. exported_by k bs a.left lv a.right rv a.fixed a.len room) c.in-Ok.ensures
 

@@ -1,7 +1,7 @@
 use Rattle.std.proofs.Common.{◌≡◌, length}
 use Rattle.rows.specs.Collected.{collected, collection, written}
 use Rattle.views.specs.Column.{rows_of}
-use Rattle.export.specs.Exported.{right_list}
+use Rattle.export.specs.Compared.{right_list}
 use Rattle.export.proofs.texts.collect_again.Given as goal
 
 -- collecting into the output leaves what it would have left at first
