@@ -8,7 +8,7 @@ use crate::file::Station;
 use duty::checks::{BothWays, DutyFault, compare_counts, compare_threshold};
 use rows::operator::CompareOperator;
 use std::alloc::{AllocError, Global};
-use std::collections::BTreeMap;
+use std::collections::HashMap;
 
 // The counts of today's stations.
 pub(crate) fn counts_today(heap: Global, today: &[Station]) -> Result<Vec<Option<u64>>, AllocError>
@@ -18,28 +18,62 @@ pub(crate) fn counts_today(heap: Global, today: &[Station]) -> Result<Vec<Option
 }
 
 // The counts of stations by their names: the first station of a name counts.
-fn counts_by_name(
+fn counts_by_name<'a>(
     heap: Global,
-    stations: Vec<Station>,
-) -> Result<BTreeMap<Vec<u8>, Option<u64>>, AllocError> {
-    let mut counts = BTreeMap::new(heap);
-    for Station { name, count } in stations {
-        counts.entry(name)?.or_insert(count);
+    stations: &'a [Station],
+) -> Result<HashMap<&'a [u8], Option<u64>>, AllocError> {
+    let mut counts = HashMap::new(heap);
+    for station in stations {
+        counts
+            .entry(station.name.as_slice())?
+            .or_insert(station.count);
     }
     Ok(counts)
 }
 
+// The same of the names of some stations alone: missing where none is of the name.
+fn counts_of_names<'a>(
+    heap: Global,
+    asked: &'a [Station],
+    stations: &[Station],
+) -> Result<HashMap<&'a [u8], Option<u64>>, AllocError> {
+    let mut counts = HashMap::new(heap);
+    for station in asked {
+        counts.entry(station.name.as_slice())?.or_insert(None);
+    }
+    // The first station comes last, and its count stays.
+    for station in stations.iter().rev() {
+        if let Some(count) = counts.get_mut(station.name.as_slice()) {
+            *count = station.count;
+        }
+    }
+    Ok(counts)
+}
+
+// What some counts by name tell of these stations: a count is missing where its name is.
+fn look_up(
+    heap: Global,
+    stations: &[Station],
+    counts: &HashMap<&[u8], Option<u64>>,
+) -> Result<Vec<Option<u64>>, AllocError> {
+    stations
+        .iter()
+        .map(|station| counts.get(station.name.as_slice()).copied().flatten())
+        .collect(heap)
+}
+
 // The counts that the same stations had the day before: missing where there was no such station.
+// A map is made of the shorter of the two days.
 pub(crate) fn counts_before(
     heap: Global,
     today: &[Station],
     yesterday: Vec<Station>,
 ) -> Result<Vec<Option<u64>>, AllocError> {
-    let counts = counts_by_name(heap, yesterday)?;
-    today
-        .iter()
-        .map(|station| counts.get(station.name.as_slice()).copied().flatten())
-        .collect(heap)
+    let yesterday = yesterday.as_slice();
+    if today.len() < yesterday.len() {
+        return look_up(heap, today, &counts_of_names(heap, today, yesterday)?);
+    }
+    look_up(heap, today, &counts_by_name(heap, yesterday)?)
 }
 
 // The results of the comparisons, bit i for station i.

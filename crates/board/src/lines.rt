@@ -29,13 +29,21 @@ impl fmt::Display for Mark {
     }
 }
 
+// Adds the name of a station to a list of names.
+fn add_name(names: &mut String, station: &Station) -> Result<(), AllocError> {
+    if !names.is_empty() {
+        names.push_str(", ")?;
+    }
+    write!(names, "{station}")
+}
+
 // The names of some stations.
 fn list_names(heap: Global, stations: &[&Station]) -> Result<String, AllocError> {
-    let names: Vec<String> = stations
-        .iter()
-        .map(|station| station.to_string(heap))
-        .try_collect(heap)?;
-    names.as_slice().join(heap, ", ")
+    let mut names = String::new(heap);
+    for station in stations {
+        add_name(&mut names, station)?;
+    }
+    Ok(names)
 }
 
 // Prints the head of a line of the duty list.
@@ -45,10 +53,9 @@ fn print_head(rt: &HostRuntime, title: &str, rule: &str, mark: Mark) -> anyhow::
     Ok(())
 }
 
-// Prints the stations that a line tells of, where there are any.
-fn print_told(rt: &HostRuntime, what: &str, stations: &[&Station]) -> anyhow::Result<()> {
-    if !stations.is_empty() {
-        let names = list_names(rt.alloc(), stations)?;
+// Prints the names that a line tells, where there are any.
+fn print_told(rt: &HostRuntime, what: &str, names: &str) -> anyhow::Result<()> {
+    if !names.is_empty() {
         println!(rt; "        {what}: {names}")?;
     }
     Ok(())
@@ -67,14 +74,15 @@ fn print_pair(rt: &HostRuntime, pair: &Pair<'_>) -> anyhow::Result<()> {
 
 // Prints the line of the duty list on the names.
 pub(crate) fn print_names(rt: &HostRuntime, findings: &NameFindings<'_>) -> anyhow::Result<()> {
-    let clear = findings.absent.is_empty() && findings.pairs.is_empty();
+    let absent = list_names(rt.alloc(), findings.absent.as_slice())?;
+    let clear = absent.is_empty() && findings.pairs.is_empty();
     print_head(
         rt,
         "Left side against the install sheet: a station entered twice",
         "a proper beginning is less: a name and the same name with one byte more are never equal",
         Mark::ticked_if(clear),
     )?;
-    print_told(rt, "not on the sheet", findings.absent.as_slice())?;
+    print_told(rt, "not on the sheet", absent.as_str())?;
     for pair in findings.pairs.as_slice() {
         print_pair(rt, pair)?;
     }
@@ -111,14 +119,15 @@ impl<'a> Board<'a> {
         Ok(())
     }
 
-    // The stations whose bit is set in both results.
-    fn stations_in(&self, bits: &[u8], others: &[u8]) -> Result<Vec<&'a Station>, AllocError> {
-        self.stations
-            .iter()
-            .enumerate()
-            .filter(|(i, _)| bit(bits, *i) && bit(others, *i))
-            .map(|(_, station)| station)
-            .collect(self.rt.alloc())
+    // The names of the stations whose bit is set in both results.
+    fn names_in(&self, bits: &[u8], others: &[u8]) -> Result<String, AllocError> {
+        let mut names = String::new(self.rt.alloc());
+        for (i, station) in self.stations.iter().enumerate() {
+            if bit(bits, i) && bit(others, i) {
+                add_name(&mut names, station)?;
+            }
+        }
+        Ok(names)
     }
 
     // Prints a line of the duty list, which catches the stations whose bit is set in both results.
@@ -129,10 +138,10 @@ impl<'a> Board<'a> {
         bits: &[u8],
         others: &[u8],
     ) -> anyhow::Result<Mark> {
-        let caught = self.stations_in(bits, others)?;
+        let caught = self.names_in(bits, others)?;
         let mark = Mark::ticked_if(caught.is_empty());
         print_head(self.rt, title, rule, mark)?;
-        print_told(self.rt, "caught", caught.as_slice())?;
+        print_told(self.rt, "caught", caught.as_str())?;
         Ok(mark)
     }
 
@@ -154,8 +163,8 @@ impl<'a> Board<'a> {
             missing,
             missing,
         )?;
-        let zero = self.stations_in(zero, zero)?;
-        print_told(self.rt, "zero and not missing", zero.as_slice())?;
+        let zero = self.names_in(zero, zero)?;
+        print_told(self.rt, "zero and not missing", zero.as_str())?;
         Ok(mark)
     }
 
@@ -176,7 +185,7 @@ impl<'a> Board<'a> {
         if after == before {
             println!(rt; "        the same rows with the threshold before the sign")?;
         } else {
-            let again = list_names(heap, self.stations_in(before, before)?.as_slice())?;
+            let again = self.names_in(before, before)?;
             println!(rt; "        other rows with the threshold before the sign: {again}")?;
         }
         Ok(mark)
