@@ -1,12 +1,7 @@
 -- Outputs that hold a collection and nothing else. Assumes nothing.
-use Rattle.std.proofs.Common.{◌≡◌, ℕ, zero, suc, ◌*◌, List, ◌∷◌, ◌++◌, length, take, drop, replicate, pos, Some, sym, refl, ap, ◌∙◌, ap₂, append-nil, arith}
+use Rattle.std.proofs.Common.{◌≡◌, ℕ, zero, suc, List, ◌∷◌, ◌++◌, length, take, drop, replicate, pos, Some, sym, refl, ap, ◌∙◌, ap₂, append-nil, arith}
 use Rattle.std.proofs.lemmas.List.{drop_all, take_at}
-use Rattle.elements.specs.declared.ptype.PType.TheVariants.{U64}
-use Rattle.parts.specs.declared.validity.Validity.TheVariants.{Bitmap}
-use Rattle.parts.specs.Parts.{valid_at}
-use Rattle.numbers.specs.Columns.{key_at}
-use Rattle.numbers.proofs.Cells.{cells_length}
-use Rattle.duty.specs.Counts.{area_rows, count_rows}
+use Rattle.duty.specs.Counts.{count_rows}
 use Rattle.rows.specs.Bits.{bytes_for}
 use Rattle.rows.specs.Collected.{collected}
 use Rattle.rows.proofs.Collections.{collected_length}

@@ -6,7 +6,7 @@ ghost use Rattle.rows.specs.Row.{number};
 ghost use Rattle.duty.specs.Counts.{count_rows, area_rows};
 
 use crate::area::count_area;
-use crate::output::collect_rows;
+use crate::output::{collect_rows, output_for};
 use elements::kind::U64;
 use faults::{CollectFault, ColumnFault};
 use numbers::column::NumberColumn;
@@ -60,10 +60,11 @@ pub fn compare_counts(
 {
     let left_area = count_area(heap, left)?;
     let right_area = count_area(heap, right)?;
+    let out = output_for(heap, left.len())?;
     let left_column = count_column(&left_area, left.len())?;
     let right_column = count_column(&right_area, right.len())?;
     let numbers = Numbers::new(left_column, right_column);
-    collect_rows(heap, &numbers, op, left.len())
+    collect_rows(&numbers, op, left.len(), out)
 }
 
 // What a threshold gives on either side of the sign.
@@ -96,10 +97,10 @@ pub fn compare_threshold(
     let area = count_area(heap, counts)?;
     let one = threshold_area(heap, threshold, 1)?;
     let many = threshold_area(heap, threshold, len)?;
+    let mut after = output_for(heap, len)?;
+    let mut before = output_for(heap, len)?;
     let after_sign = FixedRow::new(Numbers::new(count_column(&area, len)?, count_column(&one, 1)?));
     let before_sign = Numbers::new(count_column(&many, len)?, count_column(&area, len)?);
-    let mut after = vec![in heap; 0u8; len.div_ceil(8)]?;
-    let mut before = vec![in heap; 0u8; len.div_ceil(8)]?;
     collect_both_ways(&after_sign, &before_sign, op, len, &mut after, &mut before)?;
     Ok(BothWays { after, before })
 }

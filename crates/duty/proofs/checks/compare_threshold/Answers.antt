@@ -1,4 +1,4 @@
-use Rattle.std.proofs.Common.{◌≡◌, length, replicate, pos, sym, ap, ◌∙◌, arith}
+use Rattle.std.proofs.Common.{◌≡◌, length, replicate, pos, sym, ap, ◌∙◌}
 use Rattle.std.proofs.lemmas.List.{length-map}
 use Rattle.rows.specs.Bits.{bytes_for}
 use Rattle.rows.specs.Operators.{swapped}
@@ -23,8 +23,8 @@ returns c =
     let many = c.new-before_sign.ensures.left_list ∙ c.in_ok-count_column-3.ensures ∙ ap (λ bs. area_rows bs n) c.deref-3.ensures.value ∙ c.in_ok-many.ensures in
     let right = c.new-before_sign.ensures.right_list ∙ c.in_ok-count_column-4.ensures ∙ ap (λ bs. area_rows bs n) c.deref-4.ensures.value ∙ c.in_ok-area.ensures in
     let fixed = fixed_list _ _ xs (replicate 1 t) n left one (length-map counts count_row) in
-    let room : c.in_ok-after.after.len ≡ bytes_for n = c.in_ok-after.ensures.len ∙ omega arith in
-    let room' : c.in_ok-before.before.len ≡ bytes_for n = c.in_ok-before.ensures.len ∙ omega arith in
+    let room : c.in_ok-after.after.len ≡ bytes_for n = c.in_ok-after.ensures in
+    let room' : c.in_ok-before.before.len ≡ bytes_for n = c.in_ok-before.ensures in
     let one_way = filled _ _ xs ys op n _ c.deref_mut.result.now c.collect_both_ways.new.out _ _ left fixed size (c.deref_mut.ensures.len ∙ room) room e.writes in
     let other_way = filled _ _ ys xs (swapped op) n _ c.deref_mut-2.result.now c.collect_both_ways.new.back _ _ many right size (c.deref_mut-2.ensures.len ∙ room') room' e.writes_back in
     (one_way, other_way ∙ exchange xs ys op n ∙ sym one_way)

@@ -1,4 +1,4 @@
-use Rattle.std.proofs.Common.{◌≡◌, ◌*◌, vec_items, ap, ◌∙◌, rules}
+use Rattle.std.proofs.Common.{◌-◌, vec_items, ap, ◌∙◌, arith}
 use Rattle.parts.specs.declared.validity.Validity.TheVariants.{NonNullable}
 use Rattle.views.specs.Texts.{text_rows}
 use Rattle.duty.proofs.Columns.{column_rows, rows_behind}
@@ -8,6 +8,6 @@ pub returns : goal.returns
 returns c =
     let names = c.args.names.now in
     let bytes = vec_items names.bytes in
-    let start : c.in_ok-start.start ≡ 16 * c.args.first = search rules in
-    c.new-column.ensures.means ∙ column_rows _ bytes names.buffers c.in_ok-start.start c.args.len c.deref.ensures.value (c.in_ok-check.ensures ∙ c.new-column.ensures.answers)
-    ∙ ap (λ s. text_rows bytes names.buffers s NonNullable c.args.len) start ∙ rows_behind bytes names.buffers c.args.first c.args.len names.len c.requires
+    let len = c.args.len in
+    c.new-column.ensures.means ∙ column_rows _ bytes names.buffers c.args.start len c.deref.ensures.value (c.in_ok-check.ensures ∙ c.new-column.ensures.answers)
+    ∙ ap (λ s. text_rows bytes names.buffers s NonNullable len) c.requires.last ∙ rows_behind bytes names.buffers (names.len - len) len names.len (omega (arith, c.requires.some))
