@@ -33,6 +33,15 @@ impl<'a> TextConstant<'a> {
         let image = View::read_within(&image_bytes(bytes), 0);
         TextConstant { bytes, image }
     }
+
+    // The words that a view of the constant would have, and what they tell.
+    pub fn words(self) -> View
+        ensures view { result ≡ self.entry.image }
+        ensures tells { Words (view_bytes result) self.entry.bytes.now }
+        ensures whole { Whole (view_bytes result) self.entry.bytes.now }
+    {
+        self.image
+    }
 }
 
 impl<'a> Told<'a> for TextConstant<'a> {
@@ -46,7 +55,7 @@ impl<'a> Told<'a> for TextConstant<'a> {
         ensures tells { Words (view_bytes result) self.entry.bytes.now }
         ensures whole { Whole (view_bytes result) self.entry.bytes.now }
     {
-        self.image
+        TextConstant::words(self)
     }
 
     fn has_front(self) -> bool {

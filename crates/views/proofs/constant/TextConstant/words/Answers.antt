@@ -5,7 +5,7 @@ use Rattle.views.specs.Image.{image_of}
 use Rattle.views.specs.View.{prefix_of, size_of, view_bytes}
 use Rattle.views.specs.Window.{window}
 use Rattle.views.proofs.Faults.{window_shorter}
-use Rattle.views.proofs.against.TextConstantTold.words.Goals as goal
+use Rattle.views.proofs.constant.TextConstant.words.Goals as goal
 
 image_size : (w bs : List ℕ) → w ≡ image_of bs → size_of w ≡ min (length bs) 4294967295
 unfolding size_of
