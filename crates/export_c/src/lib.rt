@@ -1,17 +1,9 @@
-// The static library's C interface: what the crate export compares, in plain numbers and slices.
+// The static library's C interface: what the crate export compares, under the same clauses.
 #![tactic(auto)]
 
 ghost use Rattle.std.specs.Prelude.{◌≡◌, length};
 ghost use Rattle.elements.specs.Kinds.{coded};
 ghost use Rattle.export.specs.Exported.{exported_by, exported_texts, filled_by, filled_texts, one_buffer, operator_of, validity_of};
-
-use codes::{answer, operator, side};
-use elements::ptype::PType;
-use export::comparison::Comparison;
-use export::{numeric, texts};
-use parts::part::Part;
-
-mod codes;
 
 // Bit i of the output is the operator of the order of left row i and right row i, or of right row 0 where `fixed` is set.
 // Each column has `len` elements of the kind with the code `ptype`, from its start on; where `nullable` is set it has a bitmap.
@@ -33,19 +25,19 @@ pub extern "C" fn compare_numbers(
     ensures answers { result ≡ exported_by (coded ptype) bytes.now left (validity_of nullable left_bitmap) right (validity_of nullable right_bitmap) fixed len (length out.old) }
     ensures writes { out.new ≡ filled_by (coded ptype) bytes.now left (validity_of nullable left_bitmap) right (validity_of nullable right_bitmap) (operator_of op) fixed len result out.old }
 {
-    let kind = match PType::try_from(ptype) {
-        Ok(kind) => kind,
-        Err(fault) => return fault.number(),
-    };
-    let asked = Comparison {
+    export::compare_numbers(
         bytes,
-        left: side(left, nullable, left_bitmap),
-        right: side(right, nullable, right_bitmap),
+        ptype,
+        left,
+        left_bitmap,
+        right,
+        right_bitmap,
+        nullable,
         len,
-        op: operator(op),
+        op,
         fixed,
-    };
-    answer(numeric::compare_numbers(kind, &asked, out))
+        out,
+    )
 }
 
 // Bit i of the output is the operator of the order of left row i and right row i, or of right row 0 where `fixed` is set.
@@ -70,17 +62,19 @@ pub extern "C" fn compare_views(
     ensures answers { result ≡ exported_texts (one_buffer buffer buffer_len) bytes.now left (validity_of nullable left_bitmap) right (validity_of nullable right_bitmap) fixed len (length out.old) }
     ensures writes { out.new ≡ filled_texts (one_buffer buffer buffer_len) bytes.now left (validity_of nullable left_bitmap) right (validity_of nullable right_bitmap) (operator_of op) fixed len result out.old }
 {
-    let buffers = [Part {
-        start: buffer,
-        len: buffer_len,
-    }];
-    let asked = Comparison {
+    export::compare_views(
         bytes,
-        left: side(left, nullable, left_bitmap),
-        right: side(right, nullable, right_bitmap),
+        buffer,
+        buffer_len,
+        left,
+        left_bitmap,
+        right,
+        right_bitmap,
+        nullable,
         len,
-        op: operator(op),
+        op,
         fixed,
-    };
-    answer(texts::compare_views(&buffers, &asked, again, out))
+        again,
+        out,
+    )
 }

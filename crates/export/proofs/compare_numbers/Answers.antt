@@ -4,8 +4,8 @@ use Rattle.export.specs.Compared.{results}
 use Rattle.rows.specs.Collected.{written}
 use Rattle.export.specs.Exported.{exported, exported_by, filled, filled_by, validity_of, operator_of}
 use Rattle.export.specs.Faults.{told}
-use Rattle.export_c.proofs.Told.{writes}
-use Rattle.export_c.proofs.compare_numbers.Goals as goal
+use Rattle.export.proofs.Told.{writes}
+use Rattle.export.proofs.compare_numbers.Goals as goal
 
 pub returns-clause-answers : goal.returns-clause-answers
 returns-clause-answers c =

@@ -4,8 +4,8 @@ use Rattle.rows.specs.Collected.{written}
 use Rattle.export.specs.Exported.{exported_texts, filled_texts, one_buffer}
 use Rattle.export.specs.Faults.{told}
 use Rattle.export.specs.Texts.{text_results}
-use Rattle.export_c.proofs.Told.{text_writes}
-use Rattle.export_c.proofs.compare_views.Goals as goal
+use Rattle.export.proofs.Told.{text_writes}
+use Rattle.export.proofs.compare_views.Goals as goal
 
 pub returns-clause-answers : goal.returns-clause-answers
 returns-clause-answers c =

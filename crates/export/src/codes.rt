@@ -1,10 +1,10 @@
-// What C hands over as plain numbers, and what it is answered.
+// What a comparison takes as plain numbers, and what it is answered.
 ghost use Rattle.std.specs.Prelude.{◌≡◌};
 ghost use Rattle.export.specs.Exported.{operator_of, validity_of};
 ghost use Rattle.export.specs.Faults.{told};
 
-use export::comparison::Side;
-use export::fault::CompareFault;
+use crate::comparison::Side;
+use crate::fault::CompareFault;
 use parts::validity::Validity;
 use rows::operator::CompareOperator;
 
