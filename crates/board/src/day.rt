@@ -8,7 +8,7 @@ use crate::file::Station;
 use duty::checks::{BothWays, DutyFault, compare_counts, compare_threshold};
 use rows::operator::CompareOperator;
 use std::alloc::{AllocError, Global};
-use std::collections::HashMap;
+use std::collections::{BTreeMap, BTreeSet};
 
 // The counts of today's stations.
 pub(crate) fn counts_today(heap: Global, today: &[Station]) -> Result<Vec<Option<u64>>, AllocError>
@@ -21,8 +21,8 @@ pub(crate) fn counts_today(heap: Global, today: &[Station]) -> Result<Vec<Option
 fn counts_by_name<'a>(
     heap: Global,
     stations: &'a [Station],
-) -> Result<HashMap<&'a [u8], Option<u64>>, AllocError> {
-    let mut counts = HashMap::new(heap);
+) -> Result<BTreeMap<&'a [u8], Option<u64>>, AllocError> {
+    let mut counts = BTreeMap::new(heap);
     for station in stations {
         counts
             .entry(station.name.as_slice())?
@@ -31,20 +31,23 @@ fn counts_by_name<'a>(
     Ok(counts)
 }
 
-// The same of the names of some stations alone: missing where none is of the name.
+// The same of the names of some stations alone. A name that was found is sought no longer.
 fn counts_of_names<'a>(
     heap: Global,
     asked: &'a [Station],
-    stations: &[Station],
-) -> Result<HashMap<&'a [u8], Option<u64>>, AllocError> {
-    let mut counts = HashMap::new(heap);
+    stations: &'a [Station],
+) -> Result<BTreeMap<&'a [u8], Option<u64>>, AllocError> {
+    let mut sought = BTreeSet::new(heap);
     for station in asked {
-        counts.entry(station.name.as_slice())?.or_insert(None);
+        sought.insert(station.name.as_slice())?;
     }
-    // The first station comes last, and its count stays.
-    for station in stations.iter().rev() {
-        if let Some(count) = counts.get_mut(station.name.as_slice()) {
-            *count = station.count;
+    let mut counts = BTreeMap::new(heap);
+    for station in stations {
+        if sought.is_empty() {
+            break;
+        }
+        if sought.remove(station.name.as_slice()) {
+            counts.insert(station.name.as_slice(), station.count)?;
         }
     }
     Ok(counts)
@@ -54,7 +57,7 @@ fn counts_of_names<'a>(
 fn look_up(
     heap: Global,
     stations: &[Station],
-    counts: &HashMap<&[u8], Option<u64>>,
+    counts: &BTreeMap<&[u8], Option<u64>>,
 ) -> Result<Vec<Option<u64>>, AllocError> {
     stations
         .iter()
