@@ -9,7 +9,7 @@ use rows::comparator::RowComparator;
 use rows::operator::CompareOperator;
 use std::alloc::{AllocError, Global};
 
-// The bytes that the results of `len` rows take, which is what is asked for first, before a column is looked at.
+// The bytes that the results of `len` rows take. They are asked for before a column is looked at.
 pub(crate) fn output_for(heap: Global, len: usize) -> Result<Vec<u8>, AllocError>
     ensures { IfOk result (λ v. v.len ≡ bytes_for len) }
 {
